@@ -1,0 +1,2 @@
+//! Cell choosers, known by their meaning: which open cell a run tries next. Uses nothing but std.
+pub mod chooser;

@@ -1,0 +1,2 @@
+//! Rule books, known by their meaning: what the search asks of a book, and books made of other books. Uses `bits` only.
+pub mod book;
