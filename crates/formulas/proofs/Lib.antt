@@ -1,0 +1,9 @@
+pub mod Numerals
+pub mod Unique
+pub mod Spans
+pub mod Firsts
+pub mod Levels
+pub mod Clears
+pub mod Awaits
+pub mod Tokens
+pub mod Exact

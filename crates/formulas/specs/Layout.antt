@@ -1,0 +1,36 @@
+-- How a formula's tree lies in the store: its nodes in the order in which they are read, each parent after its children. Assumes nothing.
+use mathlib.Core.List.{List, [], _∷_, _++_}
+use Prim.Native.Nat.{ℕ, _+_, _-_}
+use lib.ListN.{length, take, drop}
+use Rattle.formulas.specs.declared.node.Node.{Node}
+use Rattle.formulas.specs.declared.node.Node.the-variants.{Free, Compare, Not, And, Or}
+use Rattle.formulas.specs.Tree.{Condition, compares, negates, all, any, Conditions, one, more}
+
+-- how many nodes a tree takes; a list of one condition takes none of its own
+abbrev mutual
+  pub size : Condition → ℕ
+  size (compares a o b) = 1
+  size (negates c) = size c + 1
+  size (all cs) = listSize cs
+  size (any cs) = listSize cs
+
+  pub listSize : Conditions → ℕ
+  listSize (one c) = size c
+  listSize (more c cs) = size c + listSize cs + 1
+
+-- the nodes of a tree whose first node has the number n; its root is the last of them
+abbrev mutual
+  pub layout : ℕ → Condition → List Node
+  layout n (compares a o b) = Compare a o b ∷ []
+  layout n (negates c) = layout n c ++ (Not (n + size c - 1) ∷ [])
+  layout n (all cs) = listLayout And n cs
+  layout n (any cs) = listLayout Or n cs
+
+  pub listLayout : (ℕ → ℕ → Node) → ℕ → Conditions → List Node
+  listLayout joins n (one c) = layout n c
+  listLayout joins n (more c cs) =
+      layout n c ++ (listLayout joins (n + size c) cs ++ (joins (n + size c - 1) (n + size c + listSize cs - 1) ∷ []))
+
+-- a store in which new nodes stand from n on, and all else is as it was
+abbrev pub stored : {X : Type 0} → List X → ℕ → List X → List X
+stored nodes n new = take n nodes ++ (new ++ drop (n + length new) nodes)

@@ -1,0 +1,5 @@
+pub mod Tree
+pub mod Truth
+pub mod Faults
+pub mod Layout
+pub mod Reading
