@@ -17,8 +17,8 @@ use Rattle.formulas.specs.declared.node.Relation.{Relation}
 use Rattle.formulas.specs.declared.node.Relation.the-variants.{Equal}
 use Rattle.formulas.specs.Tree.{Condition, compares, negates, all, any, Conditions, one, more, numeral, shiftText, sideText, relationText, text, listText, notWord, andWord, orWord}
 use Rattle.formulas.specs.Faults.{next, Digit, NoDigitBefore, Begins, Outside, TooDeep, level, count}
-use Rattle.formulas.specs.Reading.{Spans, Fresh, Awaits, AwaitsList, AwaitsSide, Follows, ends, closes, goes-on, EndsShift, EndsSide, Ends, Deep}
-use Rattle.formulas.proofs.Unique.{uncons, unique, unique-list, ends-closed, ends-comma, ends-condition, ends-any, follow-ends, held, apart, SideFirst, side-first, compares-first, side-unique, relation-first, relation-ends, relation-bytes, relation-unique, EndsRelation, side-ends-relation}
+use Rattle.formulas.specs.Reading.{Spans, Fresh, Awaits, AwaitsList, AwaitsSide, Follows, ends, closes, goes-on, EndsShift, EndsSide, EndsRelation, Ends, Deep}
+use Rattle.formulas.proofs.Unique.{uncons, unique, unique-list, ends-closed, ends-comma, ends-condition, ends-any, follow-ends, held, apart, SideFirst, side-first, compares-first, side-unique, relation-first, relation-ends, relation-bytes, relation-unique, side-ends-relation}
 use Rattle.formulas.proofs.Spans.{spans-take, spans-split, spans-next, spans-each, after-word, word-next, next-at, there}
 use Rattle.formulas.proofs.Levels.{deep-flat, deep-level}
 
@@ -144,7 +144,7 @@ word-outside {o} {s} {at} {end} {i} w z y a spells kind lt p wrong = record {
 }
 
 -- an opening word at level 16
-pub too-deep : {o : List Bool} {s : List ℕ} {at end : ℕ} (w z : List ℕ) (y : Condition) → Awaits o (take at s) → text y ≡ (w ++ (40 ∷ [])) ++ z → count 40 w ≡ count 41 w
+unfoldable pub too-deep : {o : List Bool} {s : List ℕ} {at end : ℕ} (w z : List ℕ) (y : Condition) → Awaits o (take at s) → text y ≡ (w ++ (40 ∷ [])) ++ z → count 40 w ≡ count 41 w
     → Spans s at (w ++ (40 ∷ [])) end → Deep s at 16 → TooDeep s end
 too-deep {o} {s} {at} {end} w z y a spells flat p d =
     let q = spans-split w (40 ∷ []) p in

@@ -18,7 +18,7 @@ use Rattle.formulas.specs.Faults.{next, Digit, count, level, TooDeep, TooLarge
 use Rattle.formulas.specs.Reading.{Spans, Clear, Deep, EndsShift, EndsSide, Ends}
 use Rattle.formulas.proofs.Numerals.{AllDigits, digits-numeral, numeral-next, numeral-prefix}
 use Rattle.formulas.proofs.Unique.{SideFirst, uncons, shift-ends, relation-ends, side-first, ends-any, ends-closed, ends-comma}
-use Rattle.formulas.proofs.Spans.{spans-split, spans-next, spans-digits}
+use Rattle.formulas.proofs.Spans.{spans-byte, spans-split, spans-next, spans-digits}
 use Rattle.formulas.proofs.Firsts.{large-first}
 use Rattle.formulas.proofs.Levels.{deep-flat, deep-open, deep-level, balanced, balanced-side, balanced-relation, balanced-append, levels-some, list-levels-some}
 
@@ -101,29 +101,25 @@ module _ {cells : ℕ} {s : List ℕ} where
       large = λ j f. ⊎-elim (λ lt. absurd (not-large j (c .large j f) lt f)) (λ le. le) (cases-lt j end);
     }
 
-  -- C and the number of a cell that is there
-  pub clear-cell : {n at end : ℕ} → cells ≤ 1000000 → Clear cells s at → Spans s at (67 ∷ numeral n) end → n < cells → (Digit (next (drop end s)) → ⊥) ⊎ (n ≡ 0) → Clear cells s end
-  clear-cell {n} {at} {end} few c p known stop =
-      let q = spans-split (67 ∷ []) (numeral n) p in
-      clear-digits (q .1) (omega arith) stop (clear-step c (λ h. absurd (omega (arith, spans-next p, h))) (λ f. go (f .token) (f .large) (f .stands)))
+  -- C, where no missing cell's number stands after it
+  pub clear-letter : {at : ℕ} → Clear cells s at → next (drop at s) ≡ 67 → ((m : ℕ) (t : List ℕ) → drop (at + 1) s ≡ numeral m ++ t → m < cells) → Clear cells s (at + 1)
+  clear-letter {at} c e known = clear-step c (λ h. absurd (omega (arith, e, h))) (λ f. go (f .token) (f .large) (f .stands))
     where
       go : (w : List ℕ) → Oversize cells s at w → drop at s ≡ w ++ drop (at + length w) s → ⊥
-      go w (cell {n = m} h) e =
-          let z = numeral-prefix m n (drop (at + length (67 ∷ numeral m)) s) (drop end s) stop (uncons 67 _ _ (sym e ∙ p .said)) in omega arith
-      go w (digits {n = m} h g) e = let d = numeral-next m (drop (at + length (numeral m)) s) in omega (arith, d .1, ap next (sym e ∙ p .said))
-      go w (negative h g) e = omega (arith, ap next (sym e ∙ p .said))
+      go w (cell {n = m} h) x =
+          let k = known m (drop (at + length (67 ∷ numeral m)) s) (uncons 67 _ _ (sym (spans-byte s at 67 e (omega arith) .said) ∙ x)) in omega arith
+      go w (digits {n = m} h g) x = let d = numeral-next m (drop (at + length (numeral m)) s) in omega (arith, d .1, ap next x)
+      go w (negative h g) x = omega (arith, ap next x)
 
-  -- a minus and digits within the limit; a minus after a digit belongs to no number
-  pub clear-minus : {n at end : ℕ} → Clear cells s at → Spans s at (45 ∷ numeral n) end → n ≤ 1000000 → (Digit (next (drop end s)) → ⊥) ⊎ (n ≡ 0) → Clear cells s end
-  clear-minus {n} {at} {end} c p few stop =
-      let q = spans-split (45 ∷ []) (numeral n) p in
-      clear-digits (q .1) few stop (clear-step c (λ h. absurd (omega (arith, spans-next p, h))) (λ f. go (f .token) (f .large) (f .stands)))
+  -- a minus, where no digits above the limit stand after it
+  pub clear-minus : {at : ℕ} → Clear cells s at → next (drop at s) ≡ 45 → ((m : ℕ) (t : List ℕ) → drop (at + 1) s ≡ numeral m ++ t → m ≤ 1000000) → Clear cells s (at + 1)
+  clear-minus {at} c e few = clear-step c (λ h. absurd (omega (arith, e, h))) (λ f. go (f .token) (f .large) (f .stands))
     where
       go : (w : List ℕ) → Oversize cells s at w → drop at s ≡ w ++ drop (at + length w) s → ⊥
-      go w (cell h) e = omega (arith, ap next (sym e ∙ p .said))
-      go w (digits {n = m} h g) e = let d = numeral-next m (drop (at + length (numeral m)) s) in omega (arith, d .0, ap next (sym e ∙ p .said))
-      go w (negative {n = m} h g) e =
-          let z = numeral-prefix m n (drop (at + length (45 ∷ numeral m)) s) (drop end s) stop (uncons 45 _ _ (sym e ∙ p .said)) in omega arith
+      go w (cell h) x = omega (arith, ap next x)
+      go w (digits {n = m} h g) x = let d = numeral-next m (drop (at + length (numeral m)) s) in omega (arith, d .0, ap next x)
+      go w (negative {n = m} h g) x =
+          let k = few m (drop (at + length (45 ∷ numeral m)) s) (uncons 45 _ _ (sym (spans-byte s at 45 e (omega arith) .said) ∙ x)) in omega arith
 
   -- the sign of a shift stands after a digit
   pub clear-sign : {at : ℕ} (b i : ℕ) → Clear cells s at → next (drop at s) ≡ b → (b ≡ 43) ⊎ (b ≡ 45) → at ≡ i + 1 → Digit (next (drop i s)) → Clear cells s (at + 1)
@@ -145,16 +141,21 @@ module _ {cells : ℕ} {s : List ℕ} where
       clear-digits (q .1) known (inl f) (clear-sign 45 i c (spans-next p) (inr refl) before d)
 
   module _ (many : cells ≤ 1000000) where
-    pub clear-side : {at end : ℕ} (a : Side) → Clear cells s at → Spans s at (sideText a) end → KnownSide cells a → EndsSide a (next (drop end s)) → Clear cells s end
+    pub clear-side : (a : Side) {at end : ℕ} → Clear cells s at → Spans s at (sideText a) end → KnownSide cells a → EndsSide a (next (drop end s)) → Clear cells s end
     clear-side (Number (pos n)) c p known f = clear-digits p known (inl f) c
-    clear-side (Number (negsuc n)) c p known f = clear-minus c p known (inl f)
-    clear-side (Cell n h) c p known f =
+    clear-side (Number (negsuc n)) {at} {end} c p known f =
+        let q = spans-split (45 ∷ []) (numeral (suc n)) p in
+        clear-digits (q .1) known (inl f) (clear-minus c (spans-next p) (λ m t e. omega (arith, numeral-prefix m (suc n) t (drop end s) (inl f) (sym e ∙ q .1 .said))))
+    clear-side (Cell n h) {at} {end} c p known f =
+        let mid = at + length (67 ∷ numeral n) in
         let q = spans-split (67 ∷ numeral n) (shiftText h) p in
         let r = spans-split (67 ∷ []) (numeral n) (q .0) in
         let l = last-digit n (r .1) in
-        clear-shift (l .0) h (clear-cell many c (q .0) (known .0) (inl (λ d. shift-ends h (drop _ s) f (subst (λ x. Digit (next x)) (q .1 .said) d)))) (l .1) (l .2) (q .1) (known .1) f
+        let stop : Digit (next (drop mid s)) → ⊥ = λ d. shift-ends h (drop end s) f (subst (λ x. Digit (next x)) (q .1 .said) d) in
+        let c₁ = clear-letter c (spans-next p) (λ m t e. omega (arith, numeral-prefix m n t (drop mid s) (inl stop) (sym e ∙ r .1 .said), known .0)) in
+        clear-shift (l .0) h (clear-digits (r .1) (omega (arith, known .0)) (inl stop) c₁) (l .1) (l .2) (q .1) (known .1) f
 
-    clear-bytes : (w : List ℕ) {at end : ℕ} → Plain w → Clear cells s at → Spans s at w end → Clear cells s end
+    pub clear-bytes : (w : List ℕ) {at end : ℕ} → Plain w → Clear cells s at → Spans s at w end → Clear cells s end
     clear-bytes [] a c p = subst (Clear cells s) (sym (p .upto ∙ omega arith)) c
     clear-bytes (b ∷ w) a c p = clear-bytes w (a .1) (clear-plain b c (spans-next p) (a .0 .0) (a .0 .1)) (spans-split (b ∷ []) w p .1)
 
@@ -210,3 +211,4 @@ module _ {cells : ℕ} {s : List ℕ} where
           let t = spans-split (44 ∷ []) (listText xs ++ (41 ∷ [])) (r .1) in
           let c₂ = clear-condition x c d (r .0) (known .0) (omega arith) (subst (Ends x) (sym (spans-next (r .1))) (ends-comma x)) in
           clear-list xs (clear-close 44 (inr refl) c₂ (spans-next (r .1))) (deep-flat (t .0) refl (deep-flat (r .0) (balanced x) d)) (t .1) (known .1) (omega arith)
+

@@ -7,3 +7,4 @@ pub mod Clears
 pub mod Awaits
 pub mod Tokens
 pub mod Exact
+pub mod Layouts

@@ -5,10 +5,8 @@ use mathlib.Core.List.{List, [], _∷_, _++_, map, map-append, append-assoc}
 use mathlib.Core.Logic.{_⊎_, inl, inr, ⊎-elim}
 use Prim.Native.Nat.{ℕ, suc, _+_, _-_, _*_, _/_, _%_, _<_, _≤_}
 use native.Mathlib.Omega.{arith}
-use native.Mathlib.Numerals.{add-one}
 use lib.Dec.{eqb}
 use lib.ListN.{length, getD, drop, take}
-use lib.Seq.{drop-cons}
 use borrow.Author.Tests.{eq-eqb, ne-eqb}
 use Rattle.std.specs.Vec.{Every}
 use Rattle.std.specs.shelf.Digits.{digitsOf, number, numberAfter}
@@ -26,7 +24,8 @@ pub numeral-zero : numeral 0 ≡ 48 ∷ []
 unfolding numeral
 numeral-zero = refl
 
-numeral-push : (v d : ℕ) → 0 < v → d < 10 → numeral (v * 10 + d) ≡ numeral v ++ ((48 + d) ∷ [])
+-- one more digit
+pub numeral-push : (v d : ℕ) → 0 < v → d < 10 → numeral (v * 10 + d) ≡ numeral v ++ ((48 + d) ∷ [])
 numeral-push v d pos h =
     let q : (v * 10 + d) / 10 ≡ v = omega arith in
     let r : (v * 10 + d) % 10 ≡ d = omega arith in
@@ -35,26 +34,13 @@ numeral-push v d pos h =
     ∙ rw (q, r) (map-append (λ d. 48 + d) (digitsOf 10 v) (d ∷ []))
     ∙ ap (λ l. l ++ ((48 + d) ∷ [])) (sym (positive v pos))
 
--- the digits read so far, and one more
-pub digit-more : (s : List ℕ) (at end v b : ℕ) → 0 < v → end < length s → getD s end 0 ≡ b → 48 ≤ b → b ≤ 57 → drop at s ≡ numeral v ++ drop end s → drop at s ≡ numeral (v * 10 + (b - 48)) ++ drop (end + 1) s
-digit-more s at end v b pos lt is low high e =
-    let d : 48 + (b - 48) ≡ b = omega arith in
-    e ∙ rw (add-one, numeral-push v (b - 48) pos (omega arith), d, append-assoc, drop-cons s end 0, is) refl
-
-first : (d : ℕ) → d < 10 → 0 < d → numeral d ≡ (48 + d) ∷ []
-first d h pos =
+-- a single digit
+pub numeral-one : (d : ℕ) → d < 10 → 0 < d → numeral d ≡ (48 + d) ∷ []
+numeral-one d h pos =
     let q : d / 10 ≡ 0 = omega arith in
     let r : d % 10 ≡ d = omega arith in
     let e : digitsOf 10 d ≡ d ∷ [] = digitsOf-step 10 d (omega arith) pos ∙ rw (q, r) refl in
     positive d pos ∙ ap (map (λ d. 48 + d)) e
-
-pub digit-first : (s : List ℕ) (at b : ℕ) → at < length s → getD s at 0 ≡ b → 48 < b → b ≤ 57 → drop at s ≡ numeral (b - 48) ++ drop (at + 1) s
-digit-first s at b lt is low high =
-    let d : 48 + (b - 48) ≡ b = omega arith in
-    rw (add-one, first (b - 48) (omega arith) (omega arith), d, drop-cons s at 0, is) refl
-
-pub digit-zero : (s : List ℕ) (at b : ℕ) → at < length s → getD s at 0 ≡ b → b ≡ 48 → drop at s ≡ numeral 0 ++ drop (at + 1) s
-digit-zero s at b lt is z = rw (add-one, numeral-zero, drop-cons s at 0, is, z) refl
 
 -- each byte is so; each is a digit
 abbrev pub Each : (ℕ → Type 0) → List ℕ → Type 0

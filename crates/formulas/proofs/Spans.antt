@@ -2,14 +2,15 @@
 use mathlib.Core.Path.{_≡_, refl, sym, ap, _∙_, subst}
 use mathlib.Core.List.{List, [], _∷_, _++_, append-assoc, append-nil}
 use mathlib.Core.Logic.{_⊎_, inl, inr, ⊎-elim}
-use Prim.Native.Nat.{ℕ, zero, suc, _+_, _-_, _<_, _≤_}
+use Prim.Native.Nat.{ℕ, suc, _+_, _-_, _*_, _<_, _≤_}
 use native.Mathlib.Omega.{arith}
 use lib.ListN.{length, getD, take, drop, take-append-drop, length-append, length-drop}
-use Rattle.std.proofs.shelf.Lists.{take-at, drop-at, drop-drop, drop-more, drop-all, drop-take, take-take, length-take-le}
+use Rattle.std.proofs.shelf.Lists.{take-at, drop-at, drop-drop, drop-more, drop-all, drop-take, take-more, take-take, length-take-le}
 use Rattle.std.proofs.shelf.Tests.{cases-lt, cases-eq}
 use Rattle.formulas.specs.Faults.{next, Digit}
 use Rattle.formulas.specs.Reading.{Spans}
-use Rattle.formulas.proofs.Numerals.{Each, AllDigits}
+use Rattle.formulas.specs.Tree.{numeral}
+use Rattle.formulas.proofs.Numerals.{Each, AllDigits, numeral-zero, numeral-one, numeral-push}
 
 pub next-at : (s : List ℕ) (at : ℕ) → at < length s → next (drop at s) ≡ getD s at 0
 next-at s at lt = ap next (drop-more s at 0 lt)
@@ -97,3 +98,21 @@ spans-each P (b ∷ w) {s} {at} {end} a p i low high =
 
 pub spans-digits : (w : List ℕ) {s : List ℕ} {at end : ℕ} → AllDigits w → Spans s at w end → (i : ℕ) → at ≤ i → i < end → Digit (next (drop i s))
 spans-digits w a p i low high = spans-each Digit w a p i low high
+
+-- digits read one by one
+pub digit-zero : (s : List ℕ) (at : ℕ) → at < length s → getD s at 0 ≡ 48 → Spans s at (numeral 0) (at + 1)
+digit-zero s at lt is = subst (λ w. Spans s at w (at + 1)) (sym numeral-zero) (spans-byte s at 48 (next-at s at lt ∙ is) (omega arith))
+
+pub digit-first : (s : List ℕ) (at b : ℕ) → at < length s → getD s at 0 ≡ b → 48 < b → b ≤ 57 → Spans s at (numeral (b - 48)) (at + 1)
+digit-first s at b lt is low high =
+    let d : 48 + (b - 48) ≡ b = omega arith in
+    subst (λ w. Spans s at w (at + 1)) (ap (λ x. x ∷ []) (sym d) ∙ sym (numeral-one (b - 48) (omega arith) (omega arith))) (spans-byte s at b (next-at s at lt ∙ is) (omega arith))
+
+pub digit-more : (s : List ℕ) (at end v b : ℕ) → 0 < v → end < length s → getD s end 0 ≡ b → 48 ≤ b → b ≤ 57 → Spans s at (numeral v) end → Spans s at (numeral (v * 10 + (b - 48))) (end + 1)
+digit-more s at end v b pos lt is low high p =
+    let d : 48 + (b - 48) ≡ b = omega arith in
+    subst (λ w. Spans s at w (end + 1)) (ap (λ x. numeral v ++ (x ∷ [])) (sym d) ∙ sym (numeral-push v (b - 48) pos (omega arith))) (spans-join p (spans-byte s end b (next-at s end lt ∙ is) (omega arith)))
+
+-- a word read byte by byte
+pub word-more : (s w : List ℕ) (at end i : ℕ) → i < length w → next (drop end s) ≡ getD w i 0 → getD w i 0 < 256 → Spans s at (take i w) end → Spans s at (take (i + 1) w) (end + 1)
+word-more s w at end i lt is small p = subst (λ v. Spans s at v (end + 1)) (sym (take-more w i 0 lt)) (spans-join p (spans-byte s end (getD w i 0) is small))

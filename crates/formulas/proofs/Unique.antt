@@ -16,7 +16,7 @@ use Rattle.formulas.specs.declared.node.Relation.{Relation}
 use Rattle.formulas.specs.declared.node.Relation.the-variants.{Equal, NotEqual, Less, LessEqual, Greater, GreaterEqual}
 use Rattle.formulas.specs.Tree.{Condition, compares, negates, all, any, Conditions, one, more, numeral, numberText, shiftText, sideText, relationText, text, listText, notWord, andWord, orWord}
 use Rattle.formulas.specs.Faults.{next, Digit}
-use Rattle.formulas.specs.Reading.{EndsShift, EndsSide, Ends, Follows, ends, closes, goes-on}
+use Rattle.formulas.specs.Reading.{EndsShift, EndsSide, EndsRelation, Ends, Follows, ends, closes, goes-on}
 use Rattle.formulas.proofs.Numerals.{Each, numeral-next, numeral-unique}
 
 pub uncons : (b : ℕ) (s t : List ℕ) → b ∷ s ≡ b ∷ t → s ≡ t
@@ -77,15 +77,6 @@ side-unique (Cell c h) (Cell d k) t u f g e =
     let i = numeral-unique c d (shiftText h ++ t) (shiftText k ++ u) (shift-ends h t f) (shift-ends k u g) e₁ in
     let j = shift-unique h k t u f g (i .1) in
     ((λ x. Cell (i .0 x) (j .0 x)), j .1)
-
--- a relation, with the byte b after it, does not go on
-abbrev pub EndsRelation : Relation → ℕ → Type 0
-EndsRelation Equal b = Unit {0}
-EndsRelation NotEqual b = Unit {0}
-EndsRelation Less b = (b ≢ 61) × (b ≢ 62)
-EndsRelation LessEqual b = Unit {0}
-EndsRelation Greater b = b ≢ 61
-EndsRelation GreaterEqual b = Unit {0}
 
 pub side-ends-relation : (o : Relation) (b : ℕ) → SideFirst b → EndsRelation o b
 side-ends-relation Equal b f = tt

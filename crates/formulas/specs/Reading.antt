@@ -9,6 +9,8 @@ use Rattle.formulas.specs.declared.node.Shift.{Shift}
 use Rattle.formulas.specs.declared.node.Shift.the-variants.{Bare, Plus, Minus}
 use Rattle.formulas.specs.declared.node.Side.{Side}
 use Rattle.formulas.specs.declared.node.Side.the-variants.{Number, Cell}
+use Rattle.formulas.specs.declared.node.Relation.{Relation}
+use Rattle.formulas.specs.declared.node.Relation.the-variants.{Equal, NotEqual, Less, LessEqual, Greater, GreaterEqual}
 use Rattle.formulas.specs.Tree.{Condition, compares, negates, all, any, Conditions, one, more, text, listText, sideText, numeral}
 use Rattle.formulas.specs.Faults.{next, Digit, NoDigitBefore, count, TooDeep, TooLarge}
 
@@ -27,6 +29,15 @@ EndsShift (Minus n) b = Digit b → ⊥
 abbrev pub EndsSide : Side → ℕ → Type 0
 EndsSide (Number z) b = Digit b → ⊥
 EndsSide (Cell c h) b = EndsShift h b
+
+-- the same of a relation
+abbrev pub EndsRelation : Relation → ℕ → Type 0
+EndsRelation Equal b = Unit {0}
+EndsRelation NotEqual b = Unit {0}
+EndsRelation Less b = (b ≢ 61) × (b ≢ 62)
+EndsRelation LessEqual b = Unit {0}
+EndsRelation Greater b = b ≢ 61
+EndsRelation GreaterEqual b = Unit {0}
 
 abbrev pub Ends : Condition → ℕ → Type 0
 Ends (compares a o b) n = EndsSide b n
