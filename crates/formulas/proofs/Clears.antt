@@ -211,4 +211,3 @@ module _ {cells : ℕ} {s : List ℕ} where
           let t = spans-split (44 ∷ []) (listText xs ++ (41 ∷ [])) (r .1) in
           let c₂ = clear-condition x c d (r .0) (known .0) (omega arith) (subst (Ends x) (sym (spans-next (r .1))) (ends-comma x)) in
           clear-list xs (clear-close 44 (inr refl) c₂ (spans-next (r .1))) (deep-flat (t .0) refl (deep-flat (r .0) (balanced x) d)) (t .1) (known .1) (omega arith)
-

@@ -87,7 +87,7 @@ module _ {X : Type 0} where
   pub stored-more : (l : List X) (n m : ℕ) (a b : List X) → n + length a ≤ length l → m ≡ n + length a → stored (stored l n a) m b ≡ stored l n (a ++ b)
   stored-more l n m a b h e =
       let d : drop (m + length b) (stored l n a) ≡ drop (m + length b) l =
-          sym (drop-drop (length b) m (stored l n a)) ∙ ap (drop (length b)) (stored-drop l n m a (omega arith) e) ∙ drop-drop (length b) m l in
+      sym (drop-drop (length b) m (stored l n a)) ∙ ap (drop (length b)) (stored-drop l n m a (omega arith) e) ∙ drop-drop (length b) m l in
       let k : m + length b ≡ n + length (a ++ b) = omega (arith, length-append a b) in
       ap (λ x. x ++ (b ++ drop (m + length b) (stored l n a))) (stored-take l n m a (omega arith) e)
       ∙ ap (λ x. (take n l ++ a) ++ (b ++ x)) (d ∙ ap (λ j. drop j l) k)

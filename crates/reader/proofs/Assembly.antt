@@ -35,14 +35,19 @@ one-more before mid last n u new x e f h g =
 
 module _ {s : List ℕ} {at cells level n : ℕ} {before : List Node} where
   pub read-comparison : {after then end used : ℕ} {last : List Node} (a : Side) (o : Relation) (b : Side) → Spans s at (sideText a) after → Spans s after (relationText o) then → Spans s then (sideText b) end
-    → KnownSide cells a → KnownSide cells b → EndsSide b (next (drop end s)) → level ≤ 16 → n < length before → last ≡ set before n (Compare a o b) → used ≡ n + 1 → ReadOne s at cells level before n last used end
+      → KnownSide cells a → KnownSide cells b → EndsSide b (next (drop end s)) → level ≤ 16 → n < length before → last ≡ set before n (Compare a o b) → used ≡ n + 1 → ReadOne s at cells level before n last used end
   read-comparison a o b p q r k l e low h stores count = record {
-    is = compares a o b; spans = spans-join p (spans-join q r); known = (k, l); shallow = omega arith; ends = e;
-    nodes = stores ∙ stored-set before n (Compare a o b) h; count = count
+    is = compares a o b;
+    spans = spans-join p (spans-join q r);
+    known = (k, l);
+    shallow = omega arith;
+    ends = e;
+    nodes = stores ∙ stored-set before n (Compare a o b) h;
+    count = count;
   }
 
   pub read-not : {inner after u used child : ℕ} {mid last : List Node} → Spans s at notWord inner → ReadOne s inner cells (level + 1) before n mid u after → next (drop after s) ≡ 41
-    → u < length before → child ≡ u - 1 → last ≡ set mid u (Not child) → used ≡ u + 1 → ReadOne s at cells level before n last used (after + 1)
+      → u < length before → child ≡ u - 1 → last ≡ set mid u (Not child) → used ≡ u + 1 → ReadOne s at cells level before n last used (after + 1)
   read-not {inner} {after} {u} {used} {child} {mid} {last} p r e room is stores count = record {
     is = negates (r .is);
     spans = spans-join p (spans-join (r .spans) (spans-byte s after 41 e (omega arith)));
@@ -50,10 +55,10 @@ module _ {s : List ℕ} {at cells level n : ℕ} {before : List Node} where
     shallow = omega (arith, r .shallow);
     ends = tt;
     nodes =
-      let l = size-layout n (r .is) in
-      one-more before mid last n u (layout n (r .is)) (Not (n + size (r .is) - 1)) (r .nodes) (omega (arith, r .count)) room
+        let l = size-layout n (r .is) in
+        one-more before mid last n u (layout n (r .is)) (Not (n + size (r .is) - 1)) (r .nodes) (omega (arith, r .count)) room
         (stores ∙ ap (λ k. set mid u (Not k)) (is ∙ ap (λ k. k - 1) (r .count)));
-    count = omega (arith, r .count)
+    count = omega (arith, r .count);
   }
 
   pub read-all : {inner used end : ℕ} {last : List Node} → Spans s at andWord inner → ReadList s inner cells (level + 1) All before n last used end → ReadOne s at cells level before n last used end
@@ -66,7 +71,7 @@ module _ {s : List ℕ} {at cells level n : ℕ} {before : List Node} where
   read-last r e = record { are = one (r .is); spans = spans-join (r .spans) (spans-byte s _ 41 e (omega arith)); known = r .known; shallow = r .shallow; nodes = r .nodes; count = r .count }
 
   pub read-more : {join : Join} {after end u v used first rest : ℕ} {mid mid₂ last : List Node} → ReadOne s at cells level before n mid u after → next (drop after s) ≡ 44
-    → ReadList s (after + 1) cells level join mid u mid₂ v end → v < length before → first ≡ u - 1 → rest ≡ v - 1 → last ≡ set mid₂ v (joiner join first rest) → used ≡ v + 1 → ReadList s at cells level join before n last used end
+      → ReadList s (after + 1) cells level join mid u mid₂ v end → v < length before → first ≡ u - 1 → rest ≡ v - 1 → last ≡ set mid₂ v (joiner join first rest) → used ≡ v + 1 → ReadList s at cells level join before n last used end
   read-more {join} {after} {end} {u} {v} {used} {first} {rest} {mid} {mid₂} {last} a e b room f g stores count =
       let la = size-layout n (a .is) in
       let lb = size-list (joiner join) u (b .are) in
@@ -74,8 +79,8 @@ module _ {s : List ℕ} {at cells level n : ℕ} {before : List Node} where
       let front = layout n (a .is) in
       let rear = listLayout (joiner join) (n + size (a .is)) (b .are) in
       let both : mid₂ ≡ stored before n (front ++ rear) =
-          b .nodes ∙ ap (λ m. stored m u (listLayout (joiner join) u (b .are))) (a .nodes) ∙ ap (λ k. stored (stored before n front) k (listLayout (joiner join) k (b .are))) (a .count)
-          ∙ stored-more before n (n + size (a .is)) front rear (omega (arith, a .count, b .count)) (omega arith) in
+      b .nodes ∙ ap (λ m. stored m u (listLayout (joiner join) u (b .are))) (a .nodes) ∙ ap (λ k. stored (stored before n front) k (listLayout (joiner join) k (b .are))) (a .count)
+      ∙ stored-more before n (n + size (a .is)) front rear (omega (arith, a .count, b .count)) (omega arith) in
       record {
         are = more (a .is) (b .are);
         spans = subst (λ w. Spans s at w end) (sym (append-assoc (text (a .is)) (44 ∷ listText (b .are)) (41 ∷ []))) (spans-join (a .spans) (spans-join (spans-byte s after 44 e (omega arith)) (b .spans)));
@@ -84,8 +89,8 @@ module _ {s : List ℕ} {at cells level n : ℕ} {before : List Node} where
         nodes = one-more before mid₂ last n v (front ++ rear) (joiner join (n + size (a .is) - 1) (n + size (a .is) + listSize (b .are) - 1)) both
             (omega (arith, length-append front rear, a .count, b .count)) room
             (stores ∙ ap (λ k. set mid₂ v (joiner join k rest)) (f ∙ ap (λ k. k - 1) (a .count)) ∙ ap (λ k. set mid₂ v (joiner join (n + size (a .is) - 1) k)) (g ∙ ap (λ k. k - 1) (b .count ∙ ap (λ k. k + listSize (b .are)) (a .count))))
-          ∙ ap (stored before n) (append-assoc front rear _);
-        count = omega (arith, a .count, b .count)
+            ∙ ap (stored before n) (append-assoc front rear _);
+        count = omega (arith, a .count, b .count);
       }
 
 plain-take : (i : ℕ) (w : List ℕ) → Plain w → Plain (take i w)
@@ -95,9 +100,9 @@ plain-take (suc i) (b ∷ w) a = (a .0, plain-take i w (a .1))
 
 -- a word that does not open a bracket is the first fault
 pub not-opened : {o : List Bool} {cells : ℕ} {s : List ℕ} {at level : ℕ} (e : FormulaFault) (w z : List ℕ) (y : Condition) → cells ≤ 1000000 → Awaits o (take at s) → Clear cells s at → Deep s at level
-  → Plain w → count 40 w ≡ count 41 w → text y ≡ (w ++ (40 ∷ [])) ++ z
-  → ((c : Condition) (t : List ℕ) → next (text c ++ t) ≡ next (drop at s) → (x : List ℕ) × (text c ++ t ≡ (w ++ (40 ∷ [])) ++ x))
-  → NotOpened s at (w ++ (40 ∷ [])) level e → FirstOf cells s e
+    → Plain w → count 40 w ≡ count 41 w → text y ≡ (w ++ (40 ∷ [])) ++ z
+    → ((c : Condition) (t : List ℕ) → next (text c ++ t) ≡ next (drop at s) → (x : List ℕ) × (text c ++ t ≡ (w ++ (40 ∷ [])) ++ x))
+    → NotOpened s at (w ++ (40 ∷ [])) level e → FirstOf cells s e
 unfolding too-deep
 not-opened {o} {cells} {s} {at} {level} e w z y many a c d plain flat spells kind r = ⊎-elim misspelled deep r
   where
@@ -106,16 +111,17 @@ not-opened {o} {cells} {s} {at} {level} e w z y many a c d plain flat spells kin
         let short : m .seen ≤ length w = omega (arith, m .more, length-append w (40 ∷ [])) in
         let cut : take (m .seen) (w ++ (40 ∷ [])) ≡ take (m .seen) w = take-append-le (m .seen) w (40 ∷ []) short in
         subst (λ f. First cells s f (e .offset)) (sym (m .flaw))
-          (first-grammar (word-outside (w ++ (40 ∷ [])) z y a spells kind (m .more) (m .spells) (m .wrong))
-            (clear-bytes many (take (m .seen) w) (plain-take (m .seen) w plain) c (subst (λ v. Spans s at v (e .offset)) cut (m .spells))))
+        (first-grammar (word-outside (w ++ (40 ∷ [])) z y a spells kind (m .more) (m .spells) (m .wrong))
+        (clear-bytes many (take (m .seen) w) (plain-take (m .seen) w plain) c (subst (λ v. Spans s at v (e .offset)) cut (m .spells))))
+
     deep : (e .flaw ≡ Level) × Spans s at (w ++ (40 ∷ [])) (e .offset) × (level ≡ 16) → FirstOf cells s e
     deep m =
         subst (λ f. First cells s f (e .offset)) (sym (m .0))
-          (first-level (too-deep w z y a spells flat (m .1) (subst (Deep s at) (m .2) d)) (clear-bytes many w plain c (spans-split w (40 ∷ []) (m .1) .0)))
+        (first-level (too-deep w z y a spells flat (m .1) (subst (Deep s at) (m .2) d)) (clear-bytes many w plain c (spans-split w (40 ∷ []) (m .1) .0)))
 
 -- neither a comma nor a bracket after a condition
 pub not-followed : {b : Bool} {o : List Bool} {cells level : ℕ} {s : List ℕ} {at n used end : ℕ} {before after : List Node} → cells ≤ 1000000 → Awaits (b ∷ o) (take at s) → Clear cells s at → Deep s at level
-  → (r : ReadOne s at cells level before n after used end) → next (drop end s) ≢ 41 → (b ≡ true → next (drop end s) ≢ 44) → First cells s Grammar end
+    → (r : ReadOne s at cells level before n after used end) → next (drop end s) ≢ 41 → (b ≡ true → next (drop end s) ≢ 44) → First cells s Grammar end
 not-followed {b} {o} {cells} {level} {s} {at} {n} {used} {end} many a c d r f g =
     first-grammar (after-condition (r .is) a (r .spans) (r .ends) wrong) (clear-condition many (r .is) c d (r .spans) (r .known) (r .shallow) (r .ends))
   where

@@ -1,2 +1,4 @@
 pub mod Refusals
 pub mod Assembly
+pub mod Cells
+pub mod Wholes

@@ -65,9 +65,10 @@ negated n h k = omega (arith, ints)
 
 pub negative-text : {s : List ℕ} {at end : ℕ} (n : ℕ) (z : ℤ) → 0 < n → n ≤ 1000000 → z ≡ negsuc (n - 1) → next (drop at s) ≡ 45 → Spans s (at + 1) (numeral n) end → Spans s at (numberText z) end × KnownNumber z
 negative-text {s} {at} {end} n z h k e minus p =
-    let is : suc (n - 1) ≡ n = omega arith in
-    (subst (λ x. Spans s at (numberText x) end) (sym e) (subst (λ m. Spans s at (45 ∷ numeral m) end) (sym is) (spans-join (spans-byte s at 45 minus (omega arith)) p)),
-     subst KnownNumber (sym e) (omega arith))
+    let is : suc (n - 1) ≡ n = omega arith in (
+      subst (λ x. Spans s at (numberText x) end) (sym e) (subst (λ m. Spans s at (45 ∷ numeral m) end) (sym is) (spans-join (spans-byte s at 45 minus (omega arith)) p)),
+      subst KnownNumber (sym e) (omega arith),
+    )
 
 -- after the sign of a shift
 pub sign-fresh : (s : List ℕ) (at b : ℕ) → next (drop at s) ≡ b → (b ≡ 43) ⊎ (b ≡ 45) → NoDigitBefore s (at + 1)

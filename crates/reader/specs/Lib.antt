@@ -1,1 +1,3 @@
+pub mod Mentions
 pub mod Read
+pub mod Formula

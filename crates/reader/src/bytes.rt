@@ -17,7 +17,10 @@ use formulas::fault::FormulaFault;
 pub fn outside_at(offset: usize) -> FormulaFault
     ensures { λ r. ⌜ r ≡ outside offset ⌝ }
 {
-    FormulaFault { flaw: Flaw::Grammar, offset }
+    FormulaFault {
+        flaw: Flaw::Grammar,
+        offset,
+    }
 }
 
 /// Whether the byte `b` stands at `at`.

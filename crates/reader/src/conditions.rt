@@ -47,7 +47,14 @@ fn joined(join: Join, first: u16, rest: u16) -> Node
 }
 
 /// Side, relation, side.
-fn comparison(bytes: &[u8], at: usize, level: u8, cells: u8, nodes: &mut [Node], used: &mut usize) -> Result<usize, FormulaFault>
+fn comparison(
+    bytes: &[u8],
+    at: usize,
+    level: u8,
+    cells: u8,
+    nodes: &mut [Node],
+    used: &mut usize,
+) -> Result<usize, FormulaFault>
     requires within { ⌜ at ≤ length (now bytes) ⌝ }
     requires awaits { ⌜ ((o : List Bool) × Awaits o (take at (now bytes))) ⌝ }
     requires plain { ⌜ (next (drop at (now bytes)) ≢ 78) × (next (drop at (now bytes)) ≢ 65) × (next (drop at (now bytes)) ≢ 79) ⌝ }
@@ -77,13 +84,23 @@ fn opened(bytes: &[u8], at: usize, level: u8, opening: &[u8]) -> Result<usize, F
 {
     let inner = word(bytes, at, opening)?;
     if level == 16 {
-        return Err(FormulaFault { flaw: Flaw::Level, offset: inner });
+        return Err(FormulaFault {
+            flaw: Flaw::Level,
+            offset: inner,
+        });
     }
     Ok(inner)
 }
 
 /// A condition.
-pub fn condition(bytes: &[u8], at: usize, level: u8, cells: u8, nodes: &mut [Node], used: &mut usize) -> Result<usize, FormulaFault>
+pub fn condition(
+    bytes: &[u8],
+    at: usize,
+    level: u8,
+    cells: u8,
+    nodes: &mut [Node],
+    used: &mut usize,
+) -> Result<usize, FormulaFault>
     requires within { ⌜ at ≤ length (now bytes) ⌝ }
     requires awaits { ⌜ ((o : List Bool) × Awaits o (take at (now bytes))) ⌝ }
     requires clear { ⌜ Clear cells (now bytes) at ⌝ }
@@ -118,7 +135,15 @@ pub fn condition(bytes: &[u8], at: usize, level: u8, cells: u8, nodes: &mut [Nod
 }
 
 /// A list of conditions and the bracket that closes it.
-fn conditions(bytes: &[u8], at: usize, level: u8, cells: u8, join: Join, nodes: &mut [Node], used: &mut usize) -> Result<usize, FormulaFault>
+fn conditions(
+    bytes: &[u8],
+    at: usize,
+    level: u8,
+    cells: u8,
+    join: Join,
+    nodes: &mut [Node],
+    used: &mut usize,
+) -> Result<usize, FormulaFault>
     requires within { ⌜ at ≤ length (now bytes) ⌝ }
     requires awaits { ⌜ ((o : List Bool) × AwaitsList o (take at (now bytes))) ⌝ }
     requires clear { ⌜ Clear cells (now bytes) at ⌝ }

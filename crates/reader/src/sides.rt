@@ -32,7 +32,10 @@ fn number(bytes: &[u8], at: usize) -> Result<(u32, usize), FormulaFault>
 {
     let (value, end) = digits(bytes, at)?;
     if value > LIMIT {
-        return Err(FormulaFault { flaw: Flaw::Range, offset: at });
+        return Err(FormulaFault {
+            flaw: Flaw::Range,
+            offset: at,
+        });
     }
     if digit_at(bytes, end) {
         return Err(outside_at(end));
@@ -53,7 +56,10 @@ fn negative(bytes: &[u8], at: usize) -> Result<(i32, usize), FormulaFault>
     }
     let (value, end) = digits(bytes, at + 1)?;
     if value > LIMIT {
-        return Err(FormulaFault { flaw: Flaw::Range, offset: at });
+        return Err(FormulaFault {
+            flaw: Flaw::Range,
+            offset: at,
+        });
     }
     Ok((-(value as i32), end))
 }
@@ -89,7 +95,10 @@ fn cell(bytes: &[u8], at: usize, cells: u8) -> Result<(Side, usize), FormulaFaul
 {
     let (cell, after) = digits(bytes, at + 1)?;
     if cell >= u32::from(cells) {
-        return Err(FormulaFault { flaw: Flaw::Range, offset: at });
+        return Err(FormulaFault {
+            flaw: Flaw::Range,
+            offset: at,
+        });
     }
     if digit_at(bytes, after) {
         return Err(outside_at(after));

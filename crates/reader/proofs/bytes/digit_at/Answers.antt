@@ -20,5 +20,7 @@ returns c =
     let n = next-at (c .args .bytes .now) (c .args .at) (c .if-at-bytes .left) in
     record {
       test = ((λ e. subst Digit (sym n) (c .if-bytes-at-lt48 .left, leb-true _ _ e)), (λ p. le-leb _ _ (omega (arith, n, p .1))));
-      inside = λ _. c .if-at-bytes .left; low = λ _. c .if-bytes-at-lt48 .left; high = λ e. leb-true _ _ e
+      inside = λ _. c .if-at-bytes .left;
+      low = λ _. c .if-bytes-at-lt48 .left;
+      high = λ e. leb-true _ _ e;
     }

@@ -30,5 +30,5 @@ returns-then-not-sees c =
       seen = c .loop-b .b-index;
       more = c .loop-b-test .taken;
       spells = subst (Spans (c .args .bytes .now) (c .args .at) (take (c .loop-b .b-index) (c .args .word .now))) (sym k) (c .loop-b .inv);
-      wrong = λ p. false≢true (sym (c .if-not-sees .taken) ∙ c .sees .ensures .test .1 (ap (λ i. next (drop i (c .args .bytes .now))) (sym k) ∙ p))
+      wrong = λ p. false≢true (sym (c .if-not-sees .taken) ∙ c .sees .ensures .test .1 (ap (λ i. next (drop i (c .args .bytes .now))) (sym k) ∙ p));
     }

@@ -28,18 +28,26 @@ condition-returns-in-Break-inner t c =
     let zero = compares (Number (pos 0)) Equal (Number (pos 0)) in
     record {
       read = out-as (c .from-residual .result) _ _ e (c .from-residual .ensures .1)
-        (not-opened e (78 ∷ 79 ∷ 84 ∷ []) (text zero ++ (41 ∷ [])) (negates zero) (omega arith) (c .pre .awaits .1) (c .pre .clear) (c .pre .deep) word-not refl refl
+          (not-opened e (78 ∷ 79 ∷ 84 ∷ []) (text zero ++ (41 ∷ [])) (negates zero) (omega arith) (c .pre .awaits .1) (c .pre .clear) (c .pre .deep) word-not refl refl
           (kind-not _ (c .sees .ensures .test .0 (c .if-sees .taken))) (c .in-Break-inner .ensures tt));
-      kept = refl
+      kept = refl;
     }
 
 pub condition-condition-requires : need.condition-condition-requires
 condition-condition-requires t c κs =
-    let i = c .in-Continue-inner .ensures tt in
-    (omega (arith, i .0 .upto, i .0 .within),
-      (i .0 .within, ((_, inside-not (c .pre .awaits .1) (i .0)),
-        (clear-open (omega arith) (78 ∷ 79 ∷ 84 ∷ []) word-not refl (c .pre .clear) (i .0) (c .pre .deep) (i .1),
-          (deep-open (i .0) refl (c .pre .deep), (omega (arith, i .1), (c .pre .few, omega (arith, i .0 .upto))))))))
+    let i = c .in-Continue-inner .ensures tt in (
+      omega (arith, i .0 .upto, i .0 .within),
+      (
+        i .0 .within,
+        (
+          (_, inside-not (c .pre .awaits .1) (i .0)),
+          (
+            clear-open (omega arith) (78 ∷ 79 ∷ 84 ∷ []) word-not refl (c .pre .clear) (i .0) (c .pre .deep) (i .1),
+            (deep-open (i .0) refl (c .pre .deep), (omega (arith, i .1), (c .pre .few, omega (arith, i .0 .upto)))),
+          ),
+        ),
+      ),
+    )
 
 pub condition-returns-then-not-sees : need.condition-returns-then-not-sees
 condition-returns-then-not-sees t c =
@@ -47,9 +55,9 @@ condition-returns-then-not-sees t c =
     let r = c .in-Continue-after .ensures tt in
     record {
       read = subst (FirstOf (c .args .cells) (c .args .bytes .now)) (sym (c .outside-at .ensures))
-        (not-followed (omega arith) (inside-not (c .pre .awaits .1) (i .0)) (clear-open (omega arith) (78 ∷ 79 ∷ 84 ∷ []) word-not refl (c .pre .clear) (i .0) (c .pre .deep) (i .1)) (deep-open (i .0) refl (c .pre .deep)) (r .read)
+          (not-followed (omega arith) (inside-not (c .pre .awaits .1) (i .0)) (clear-open (omega arith) (78 ∷ 79 ∷ 84 ∷ []) word-not refl (c .pre .clear) (i .0) (c .pre .deep) (i .1)) (deep-open (i .0) refl (c .pre .deep)) (r .read)
           (λ p. false≢true (sym (c .if-not-sees .taken) ∙ c .sees-then-sees .ensures .test .1 p)) (λ e. absurd (false≢true e)));
-      kept = r .kept
+      kept = r .kept;
     }
 
 pub condition-sub-child : need.condition-sub-child
@@ -77,7 +85,7 @@ condition-returns-then-sees t c =
     let e = c .sees-then-sees .ensures .test .0 (c .if-not-sees .left) in
     record {
       read = read-not (i .0) r e (omega (arith, r .count, size-text (r .is), r .spans .upto, r .spans .within, i .0 .upto)) refl (c .store .ensures .nodes) (c .store .ensures .after);
-      kept = ap (take (c .args .used .now)) (c .store .ensures .nodes) ∙ take-set-le (c .args .used .now) (c .condition .last .nodes) _ _ (omega (arith, r .count)) ∙ k .kept
+      kept = ap (take (c .args .used .now)) (c .store .ensures .nodes) ∙ take-set-le (c .args .used .now) (c .condition .last .nodes) _ _ (omega (arith, r .count)) ∙ k .kept;
     }
 
 pub condition-returns-in-Break-inner-2 : need.condition-returns-in-Break-inner-2
@@ -86,25 +94,33 @@ condition-returns-in-Break-inner-2 t c =
     let zero = compares (Number (pos 0)) Equal (Number (pos 0)) in
     record {
       read = out-as (c .from-residual-in-Break-inner-2 .result) _ _ e (c .from-residual-in-Break-inner-2 .ensures .1)
-        (not-opened e (65 ∷ 78 ∷ 68 ∷ []) (text zero ++ (41 ∷ [])) (all (one zero)) (omega arith) (c .pre .awaits .1) (c .pre .clear) (c .pre .deep) word-and refl refl
+          (not-opened e (65 ∷ 78 ∷ 68 ∷ []) (text zero ++ (41 ∷ [])) (all (one zero)) (omega arith) (c .pre .awaits .1) (c .pre .clear) (c .pre .deep) word-and refl refl
           (kind-all _ (c .sees-2 .ensures .test .0 (c .if-sees-2 .taken))) (c .in-Break-inner-2 .ensures tt));
-      kept = refl
+      kept = refl;
     }
 
 pub condition-conditions-requires : need.condition-conditions-requires
 condition-conditions-requires t c κs =
-    let i = c .in-Continue-inner-2 .ensures tt in
-    (omega (arith, i .0 .upto, i .0 .within),
-      (i .0 .within, (inside-all (c .pre .awaits .1) (i .0),
-        (clear-open (omega arith) (65 ∷ 78 ∷ 68 ∷ []) word-and refl (c .pre .clear) (i .0) (c .pre .deep) (i .1),
-          (deep-open (i .0) refl (c .pre .deep), (omega (arith, i .1), (c .pre .few, omega (arith, i .0 .upto))))))))
+    let i = c .in-Continue-inner-2 .ensures tt in (
+      omega (arith, i .0 .upto, i .0 .within),
+      (
+        i .0 .within,
+        (
+          inside-all (c .pre .awaits .1) (i .0),
+          (
+            clear-open (omega arith) (65 ∷ 78 ∷ 68 ∷ []) word-and refl (c .pre .clear) (i .0) (c .pre .deep) (i .1),
+            (deep-open (i .0) refl (c .pre .deep), (omega (arith, i .1), (c .pre .few, omega (arith, i .0 .upto)))),
+          ),
+        ),
+      ),
+    )
 
 pub condition-returns-then-sees-2 : need.condition-returns-then-sees-2
 condition-returns-then-sees-2 t c =
     let i = c .in-Continue-inner-2 .ensures tt in
     record {
       read = through (c .conditions .result) _ _ _ (λ end r. read-all (i .0) r) (c .conditions .ensures .read);
-      kept = c .conditions .ensures .kept
+      kept = c .conditions .ensures .kept;
     }
 
 pub condition-returns-in-Break-inner-3 : need.condition-returns-in-Break-inner-3
@@ -113,32 +129,46 @@ condition-returns-in-Break-inner-3 t c =
     let zero = compares (Number (pos 0)) Equal (Number (pos 0)) in
     record {
       read = out-as (c .from-residual-in-Break-inner-3 .result) _ _ e (c .from-residual-in-Break-inner-3 .ensures .1)
-        (not-opened e (79 ∷ 82 ∷ []) (text zero ++ (41 ∷ [])) (any (one zero)) (omega arith) (c .pre .awaits .1) (c .pre .clear) (c .pre .deep) word-or refl refl
+          (not-opened e (79 ∷ 82 ∷ []) (text zero ++ (41 ∷ [])) (any (one zero)) (omega arith) (c .pre .awaits .1) (c .pre .clear) (c .pre .deep) word-or refl refl
           (kind-any _ (c .sees-3 .ensures .test .0 (c .if-sees-3 .taken))) (c .in-Break-inner-3 .ensures tt));
-      kept = refl
+      kept = refl;
     }
 
 pub condition-conditions-requires-then-sees-3 : need.condition-conditions-requires-then-sees-3
 condition-conditions-requires-then-sees-3 t c κs =
-    let i = c .in-Continue-inner-3 .ensures tt in
-    (omega (arith, i .0 .upto, i .0 .within),
-      (i .0 .within, (inside-any (c .pre .awaits .1) (i .0),
-        (clear-open (omega arith) (79 ∷ 82 ∷ []) word-or refl (c .pre .clear) (i .0) (c .pre .deep) (i .1),
-          (deep-open (i .0) refl (c .pre .deep), (omega (arith, i .1), (c .pre .few, omega (arith, i .0 .upto))))))))
+    let i = c .in-Continue-inner-3 .ensures tt in (
+      omega (arith, i .0 .upto, i .0 .within),
+      (
+        i .0 .within,
+        (
+          inside-any (c .pre .awaits .1) (i .0),
+          (
+            clear-open (omega arith) (79 ∷ 82 ∷ []) word-or refl (c .pre .clear) (i .0) (c .pre .deep) (i .1),
+            (deep-open (i .0) refl (c .pre .deep), (omega (arith, i .1), (c .pre .few, omega (arith, i .0 .upto)))),
+          ),
+        ),
+      ),
+    )
 
 pub condition-returns-then-sees-3 : need.condition-returns-then-sees-3
 condition-returns-then-sees-3 t c =
     let i = c .in-Continue-inner-3 .ensures tt in
     record {
       read = through (c .conditions-then-sees-3 .result) _ _ _ (λ end r. read-any (i .0) r) (c .conditions-then-sees-3 .ensures .read);
-      kept = c .conditions-then-sees-3 .ensures .kept
+      kept = c .conditions-then-sees-3 .ensures .kept;
     }
 
 pub conditions-condition-requires : need.conditions-condition-requires
-conditions-condition-requires t c κs =
-    (omega arith,
-      (c .pre .within, ((_, list-first (take (c .args .at) (c .args .bytes .now)) (c .pre .awaits .1)),
-        (c .pre .clear, (c .pre .deep, (c .pre .shallow, (c .pre .few, c .pre .room)))))))
+conditions-condition-requires t c κs = (
+  omega arith,
+  (
+    c .pre .within,
+    (
+      (_, list-first (take (c .args .at) (c .args .bytes .now)) (c .pre .awaits .1)),
+      (c .pre .clear, (c .pre .deep, (c .pre .shallow, (c .pre .few, c .pre .room)))),
+    ),
+  ),
+)
 
 pub conditions-sub-first : need.conditions-sub-first
 conditions-sub-first t c =
@@ -154,11 +184,19 @@ pub conditions-conditions-requires : need.conditions-conditions-requires
 conditions-conditions-requires t c κs =
     let r = c .in-Continue-after .ensures tt .read in
     let e = c .sees .ensures .test .0 (c .if-sees .taken) in
-    let p = spans-byte (c .args .bytes .now) (c .in-Continue-after .after) 44 e (omega arith) in
-    (omega (arith, r .spans .upto, p .within),
-      (p .within, (after-comma (r .is) (c .pre .awaits .1) (r .spans) e,
-        (clear-close (omega arith) 44 (inr refl) (clear-condition (omega arith) (r .is) (c .pre .clear) (c .pre .deep) (r .spans) (r .known) (r .shallow) (r .ends)) e,
-          (deep-flat p refl (deep-flat (r .spans) (balanced (r .is)) (c .pre .deep)), (c .pre .shallow, (omega (arith, c .condition .kept .nodes), omega (arith, c .condition .kept .nodes, r .count, size-text (r .is), r .spans .upto))))))))
+    let p = spans-byte (c .args .bytes .now) (c .in-Continue-after .after) 44 e (omega arith) in (
+      omega (arith, r .spans .upto, p .within),
+      (
+        p .within,
+        (
+          after-comma (r .is) (c .pre .awaits .1) (r .spans) e,
+          (
+            clear-close (omega arith) 44 (inr refl) (clear-condition (omega arith) (r .is) (c .pre .clear) (c .pre .deep) (r .spans) (r .known) (r .shallow) (r .ends)) e,
+            (deep-flat p refl (deep-flat (r .spans) (balanced (r .is)) (c .pre .deep)), (c .pre .shallow, (omega (arith, c .condition .kept .nodes), omega (arith, c .condition .kept .nodes, r .count, size-text (r .is), r .spans .upto)))),
+          ),
+        ),
+      ),
+    )
 
 pub conditions-returns-in-Break-end : need.conditions-returns-in-Break-end
 conditions-returns-in-Break-end t c =
@@ -166,7 +204,7 @@ conditions-returns-in-Break-end t c =
     let b = c .in-Break-end .ensures tt in
     record {
       read = out-as (c .from-residual-in-Break-end .result) _ _ (c .in-Break-end .field-0 .0) (c .from-residual-in-Break-end .ensures .1) (b .read);
-      kept = below-kept (c .args .nodes .now) (c .condition .last .nodes) (c .conditions .last .nodes) (c .args .used .now) (c .condition .last .used) (omega (arith, r .read .count)) (b .kept) (r .kept)
+      kept = below-kept (c .args .nodes .now) (c .condition .last .nodes) (c .conditions .last .nodes) (c .args .used .now) (c .condition .last .used) (omega (arith, r .read .count)) (b .kept) (r .kept);
     }
 
 pub conditions-sub-rest : need.conditions-sub-rest
@@ -194,10 +232,10 @@ conditions-returns-then-sees t c =
     let l = b .read in
     record {
       read = read-more r (c .sees .ensures .test .0 (c .if-sees .taken)) l
-        (omega (arith, r .count, size-text (r .is), r .spans .upto, l .count, list-text (l .are), l .spans .upto, l .spans .within, length-append (listText (l .are)) (41 ∷ [])))
-        refl refl (c .store .ensures .nodes ∙ ap (set (c .conditions .last .nodes) (c .conditions .last .used)) (c .joined .ensures)) (c .store .ensures .after);
+          (omega (arith, r .count, size-text (r .is), r .spans .upto, l .count, list-text (l .are), l .spans .upto, l .spans .within, length-append (listText (l .are)) (41 ∷ [])))
+          refl refl (c .store .ensures .nodes ∙ ap (set (c .conditions .last .nodes) (c .conditions .last .used)) (c .joined .ensures)) (c .store .ensures .after);
       kept = ap (take (c .args .used .now)) (c .store .ensures .nodes) ∙ take-set-le (c .args .used .now) (c .conditions .last .nodes) _ _ (omega (arith, r .count, l .count))
-        ∙ below-kept (c .args .nodes .now) (c .condition .last .nodes) (c .conditions .last .nodes) (c .args .used .now) (c .condition .last .used) (omega (arith, r .count)) (b .kept) (a .kept)
+          ∙ below-kept (c .args .nodes .now) (c .condition .last .nodes) (c .conditions .last .nodes) (c .args .used .now) (c .condition .last .used) (omega (arith, r .count)) (b .kept) (a .kept);
     }
 
 pub conditions-returns-then-not-sees : need.conditions-returns-then-not-sees
@@ -205,9 +243,9 @@ conditions-returns-then-not-sees t c =
     let r = c .in-Continue-after .ensures tt in
     record {
       read = subst (FirstOf (c .args .cells) (c .args .bytes .now)) (sym (c .outside-at .ensures))
-        (not-followed (omega arith) (list-first (take (c .args .at) (c .args .bytes .now)) (c .pre .awaits .1)) (c .pre .clear) (c .pre .deep) (r .read)
+          (not-followed (omega arith) (list-first (take (c .args .at) (c .args .bytes .now)) (c .pre .awaits .1)) (c .pre .clear) (c .pre .deep) (r .read)
           (λ p. false≢true (sym (c .if-not-sees .taken) ∙ c .sees-2 .ensures .test .1 p)) (λ _ p. false≢true (sym (c .if-sees .left) ∙ c .sees .ensures .test .1 p)));
-      kept = r .kept
+      kept = r .kept;
     }
 
 pub conditions-returns : need.conditions-returns

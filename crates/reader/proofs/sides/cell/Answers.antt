@@ -26,7 +26,7 @@ returns-in-Break-cell c =
     let h = there (c .args .bytes .now) (c .args .at) 67 (c .pre .letter) (omega arith) in
     out-as (c .from-residual .result) _ _ (c .in-Break-cell .field-0 .0) (c .from-residual .ensures .1)
     (refuses (c .args .at + 1) _ (b .0) (digits-outside (digits-cell (c .pre .awaits) (c .pre .letter)) (omega arith) (b .1))
-      (clear-letter (c .pre .clear) (c .pre .letter) (λ m t e. absurd (no-digits (c .args .bytes .now) (c .args .at + 1) (b .1) m t e))))
+    (clear-letter (c .pre .clear) (c .pre .letter) (λ m t e. absurd (no-digits (c .args .bytes .now) (c .args .at + 1) (b .1) m t e))))
 
 pub returns-then-cell-from : need.returns-then-cell-from
 returns-then-cell-from c =
@@ -40,8 +40,8 @@ returns-then-digit-at c =
     let few : c .in-Continue-cell .cell ≤ 1000000 = omega arith in
     let z = zero-of (c .in-Continue-cell .cell) few (v .1) d in
     refuses (c .in-Continue-cell .after) _ (c .outside-at .ensures)
-      (leading-outside (digits-cell (c .pre .awaits) (c .pre .letter)) (subst (λ n. Spans (c .args .bytes .now) (c .args .at + 1) (numeral n) (c .in-Continue-cell .after)) z (v .0)) d)
-      (cell-clear (c .in-Continue-cell .cell) (omega arith) (c .pre .letter) (v .0) (omega arith) (inr z) (c .pre .clear))
+    (leading-outside (digits-cell (c .pre .awaits) (c .pre .letter)) (subst (λ n. Spans (c .args .bytes .now) (c .args .at + 1) (numeral n) (c .in-Continue-cell .after)) z (v .0)) d)
+    (cell-clear (c .in-Continue-cell .cell) (omega arith) (c .pre .letter) (v .0) (omega arith) (inr z) (c .pre .clear))
 
 pub shift-requires : need.shift-requires
 shift-requires c κs =
@@ -49,7 +49,7 @@ shift-requires c κs =
     record {
       awaits = c .pre .awaits;
       named = spans-join (spans-byte (c .args .bytes .now) (c .args .at) 67 (c .pre .letter) (omega arith)) (v .0);
-      ended = λ d. false≢true (sym (c .if-digit-at .left) ∙ c .digit-at .ensures .test .1 d)
+      ended = λ d. false≢true (sym (c .if-digit-at .left) ∙ c .digit-at .ensures .test .1 d);
     }
 
 pub returns-in-Break-shift : need.returns-in-Break-shift
@@ -57,7 +57,7 @@ returns-in-Break-shift c =
     let v = c .in-Continue-cell .ensures tt in
     out-as (c .from-residual-in-Break-shift .result) _ _ (c .in-Break-shift .field-0 .0) (c .from-residual-in-Break-shift .ensures .1)
     (c .in-Break-shift .ensures tt (c .args .cells)
-      (cell-clear (c .in-Continue-cell .cell) (omega arith) (c .pre .letter) (v .0) (omega arith) (inl (λ d. false≢true (sym (c .if-digit-at .left) ∙ c .digit-at .ensures .test .1 d))) (c .pre .clear)))
+    (cell-clear (c .in-Continue-cell .cell) (omega arith) (c .pre .letter) (v .0) (omega arith) (inl (λ d. false≢true (sym (c .if-digit-at .left) ∙ c .digit-at .ensures .test .1 d))) (c .pre .clear)))
 
 pub returns : need.returns
 returns c =

@@ -24,5 +24,7 @@ pub returns-then-sees-2 : need.returns-then-sees-2
 returns-then-sees-2 c = (byte-two (c .args .bytes .now) (c .args .at) 60 62 (c .pre) (omega arith) (c .sees-2 .ensures .test .0 (c .if-sees-2 .taken)) (omega arith), tt)
 
 pub returns : need.returns
-returns c = (spans-byte (c .args .bytes .now) (c .args .at) 60 (c .pre) (omega arith),
-    ((λ p. false≢true (sym (c .if-sees .left) ∙ c .sees .ensures .test .1 p)), (λ p. false≢true (sym (c .if-sees-2 .left) ∙ c .sees-2 .ensures .test .1 p))))
+returns c = (
+  spans-byte (c .args .bytes .now) (c .args .at) 60 (c .pre) (omega arith),
+  ((λ p. false≢true (sym (c .if-sees .left) ∙ c .sees .ensures .test .1 p)), (λ p. false≢true (sym (c .if-sees-2 .left) ∙ c .sees-2 .ensures .test .1 p))),
+)

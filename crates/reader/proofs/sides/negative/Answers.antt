@@ -19,7 +19,7 @@ returns-then-sees c =
     let z = c .sees .ensures .test .0 (c .if-sees .taken) in
     let h = c .sees .ensures .inside (c .if-sees .taken) in
     λ cells clear. refuses (c .args .at + 1) _ (c .outside-at .ensures) (zero-outside (digits-negative (c .pre .awaits) (c .pre .minus)) (omega arith) z)
-      (clear-minus clear (c .pre .minus) (λ m t e. omega (arith, zero-stands (c .args .bytes .now) (c .args .at + 1) z m t e)))
+    (clear-minus clear (c .pre .minus) (λ m t e. omega (arith, zero-stands (c .args .bytes .now) (c .args .at + 1) z m t e)))
 
 pub add-at-2 : need.add-at-2
 add-at-2 c = let h = there (c .args .bytes .now) (c .args .at) 45 (c .pre .minus) (omega arith) in search needs
@@ -33,13 +33,13 @@ returns-in-Break-value c =
     let h = there (c .args .bytes .now) (c .args .at) 45 (c .pre .minus) (omega arith) in
     out-as (c .from-residual .result) _ _ (c .in-Break-value .field-0 .0) (c .from-residual .ensures .1)
     (λ cells clear. refuses (c .args .at + 1) _ (b .0) (digits-outside (digits-negative (c .pre .awaits) (c .pre .minus)) (omega arith) (b .1))
-      (clear-minus clear (c .pre .minus) (λ m t e. absurd (no-digits (c .args .bytes .now) (c .args .at + 1) (b .1) m t e))))
+    (clear-minus clear (c .pre .minus) (λ m t e. absurd (no-digits (c .args .bytes .now) (c .args .at + 1) (b .1) m t e))))
 
 pub returns-then-value-gt-LIMIT : need.returns-then-value-gt-LIMIT
 returns-then-value-gt-LIMIT c =
     let v = c .in-Continue-value .ensures tt in
     λ cells clear. first-range
-      (negative-large (digits-negative (c .pre .awaits) (c .pre .minus)) (spans-join (spans-byte (c .args .bytes .now) (c .args .at) 45 (c .pre .minus) (omega arith)) (v .0)) (v .0) (c .if-value-gt-LIMIT .taken) (c .pre .awaits .fresh)) clear
+    (negative-large (digits-negative (c .pre .awaits) (c .pre .minus)) (spans-join (spans-byte (c .args .bytes .now) (c .args .at) 45 (c .pre .minus) (omega arith)) (v .0)) (v .0) (c .if-value-gt-LIMIT .taken) (c .pre .awaits .fresh)) clear
 
 pub returns : need.returns
 returns c =

@@ -26,6 +26,5 @@ returns-then-digit-at c =
     let d = c .digit-at .ensures .test .0 (c .if-digit-at .taken) in
     let z = zero-of (c .in-Continue-value .value) (c .if-value-gt-LIMIT .left) (v .1) d in
     λ cells clear. refuses (c .in-Continue-value .end) _ (c .outside-at .ensures)
-      (leading-outside (c .pre .awaits) (subst (λ n. Spans (c .args .bytes .now) (c .args .at) (numeral n) (c .in-Continue-value .end)) z (v .0)) d)
-      (clear-digits (v .0) (c .if-value-gt-LIMIT .left) (inr z) clear)
-
+    (leading-outside (c .pre .awaits) (subst (λ n. Spans (c .args .bytes .now) (c .args .at) (numeral n) (c .in-Continue-value .end)) z (v .0)) d)
+    (clear-digits (v .0) (c .if-value-gt-LIMIT .left) (inr z) clear)

@@ -46,6 +46,8 @@ returns-then-sees-2 c =
     (spans-join (spans-byte (c .args .bytes .now) (c .args .at) 45 e (omega arith)) (v .0), v .1, v .2)
 
 pub returns : need.returns
-returns c =
-    (spans-none (c .args .bytes .now) (c .args .at) (c .pre .named .within), tt,
-      (c .pre .ended, (λ p. false≢true (sym (c .if-sees .left) ∙ c .sees .ensures .test .1 p)), (λ p. false≢true (sym (c .if-sees-2 .left) ∙ c .sees-2 .ensures .test .1 p))))
+returns c = (
+  spans-none (c .args .bytes .now) (c .args .at) (c .pre .named .within),
+  tt,
+  (c .pre .ended, (λ p. false≢true (sym (c .if-sees .left) ∙ c .sees .ensures .test .1 p)), (λ p. false≢true (sym (c .if-sees-2 .left) ∙ c .sees-2 .ensures .test .1 p))),
+)

@@ -7,5 +7,5 @@ pub number-requires : need.number-requires
 number-requires c κs = record {
   within = c .pre .within;
   awaits = digits-number (c .pre .awaits) (λ p. false≢true (sym (c .if-sees .left) ∙ c .sees .ensures .test .1 p)) (λ p. false≢true (sym (c .if-sees-2 .left) ∙ c .sees-2 .ensures .test .1 p));
-  fresh = c .pre .awaits .fresh
+  fresh = c .pre .awaits .fresh;
 }
