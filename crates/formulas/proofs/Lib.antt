@@ -8,3 +8,4 @@ pub mod Awaits
 pub mod Tokens
 pub mod Exact
 pub mod Layouts
+pub mod Standings
