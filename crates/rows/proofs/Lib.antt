@@ -1,0 +1,4 @@
+pub mod Rows
+pub mod Masks
+pub mod Finding
+pub mod Cells
