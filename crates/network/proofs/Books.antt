@@ -1,16 +1,16 @@
 -- Support in a turned book. Assumes nothing.
 use mathlib.Core.Path.{_≡_, refl, sym, ap, _∙_, subst}
 use mathlib.Core.List.{List, reverse}
-use mathlib.Core.Bool.{Bool, true, cond}
+use mathlib.Core.Bool.{Bool, true, false, cond}
 use Prim.Native.Nat.{ℕ, _-_, _<_, _≤_}
 use native.Mathlib.Omega.{arith}
 use lib.ListN.{length, getD}
-use Rattle.std.proofs.shelf.Lists.{length-reverse, reverse-reverse, getD-reverse}
+use Rattle.std.proofs.shelf.Lists.{length-reverse, reverse-reverse, getD-reverse, getD-past}
 use Rattle.std.proofs.shelf.Tests.{cond-both, cases-lt}
 use mathlib.Core.Logic.{⊎-elim}
 use Rattle.network.specs.BookLaws.{reversed-at}
-use Rattle.std.specs.Orderings.{Decides}
 use Rattle.network.specs.Book.{Rule, BookMeaning, Lawful, Supported, reversed}
+use Rattle.network.specs.Made.{SamePosition}
 
 -- b is a with its cells and its rows last to first
 record Mirrored (a b : Rule) : Type 0 where
@@ -39,16 +39,30 @@ module _ {a b : Rule} (mirrored : Mirrored a b) where
         rw (cell, place) (s .remain (length (a .cells) - 1 - k) (omega arith));
   }
 
-module _ (rule : Rule) (i v : ℕ) (sets : List ℕ) (inside : i < length (rule .cells)) where
-  -- what the book below decides at the mirrored position
-  pub reversed-decides : (t : Bool) → Decides t (Supported rule (length (rule .cells) - 1 - i) v sets) → Decides t (Supported (reversed rule) i v sets)
-  reversed-decides t d =
-      let back : length (rule .cells) - 1 - (length (rule .cells) - 1 - i) ≡ i = omega arith in (
-        (λ e. subst (λ j. Supported (reversed rule) j v sets) back
-            (mirrored-supported (record { cells-are = refl; permits-are = λ _. refl }) (d .0 e))),
-        (λ s. d .1 (subst (λ n. Supported rule (n - 1 - i) v sets) (length-reverse (rule .cells))
-            (mirrored-supported (record { cells-are = sym (reverse-reverse (rule .cells)); permits-are = λ row. ap (rule .permits) (sym (reverse-reverse row)) }) s))),
-      )
+-- a reversed rule
+module _ (rule : Rule) (i : ℕ) where
+  reversed-inside : i < length (rule .cells) → SamePosition (reversed rule) i rule (length (rule .cells) - 1 - i)
+  reversed-inside h = record {
+    cell = reversed-at rule i h;
+    support = λ v sets. (
+      (λ s. subst (λ n. Supported rule (n - 1 - i) v sets) (length-reverse (rule .cells))
+          (mirrored-supported (record { cells-are = sym (reverse-reverse (rule .cells)); permits-are = λ row. ap (rule .permits) (sym (reverse-reverse row)) }) s)),
+      (λ s.
+          let back : length (rule .cells) - 1 - (length (rule .cells) - 1 - i) ≡ i = omega arith in
+          subst (λ j. Supported (reversed rule) j v sets) back
+          (mirrored-supported (record { cells-are = refl; permits-are = λ _. refl }) s)),
+    );
+  }
+
+  -- a position past both
+  reversed-past : length (rule .cells) ≤ i → SamePosition (reversed rule) i rule i
+  reversed-past h = record {
+    cell = getD-past (reverse (rule .cells)) i 255 (omega (arith, length-reverse (rule .cells))) ∙ sym (getD-past (rule .cells) i 255 h);
+    support = λ v sets. ((λ s. absurd (omega (arith, s .within, length-reverse (rule .cells)))), (λ s. absurd (omega (arith, s .within))));
+  }
+
+  same-position : SamePosition rule i rule i
+  same-position = record { cell = refl; support = λ v sets. ((λ s. s), (λ s. s)) }
 
 -- a turned rule, whose flag is b
 module _ (b : Bool) (rule : Rule) where
@@ -58,15 +72,14 @@ module _ (b : Bool) (rule : Rule) where
   pub turn-width : length (turn .cells) ≡ length (rule .cells)
   turn-width = cond-both b (reversed rule) rule (λ x. length (x .cells) ≡ length (rule .cells)) (λ _. length-reverse (rule .cells)) (λ _. refl)
 
-  pub turn-cell : true ≡ b → (i : ℕ) → i < length (rule .cells) → getD (turn .cells) i 255 ≡ getD (rule .cells) (length (rule .cells) - 1 - i) 255
-  turn-cell on i h = subst (λ t. getD (cond t (reversed rule) rule .cells) i 255 ≡ getD (rule .cells) (length (rule .cells) - 1 - i) 255) on (reversed-at rule i h)
+  pub turn-inside : b ≡ true → (i : ℕ) → i < length (rule .cells) → SamePosition turn i rule (length (rule .cells) - 1 - i)
+  turn-inside on i h = subst (λ t. SamePosition (cond t (reversed rule) rule) i rule (length (rule .cells) - 1 - i)) (sym on) (reversed-inside rule i h)
 
-  pub turn-decides : true ≡ b → (i v : ℕ) (sets : List ℕ) → i < length (rule .cells) → (t : Bool) → Decides t (Supported rule (length (rule .cells) - 1 - i) v sets) → Decides t (Supported turn i v sets)
-  turn-decides on i v sets h t d = subst (λ u. Decides t (Supported (cond u (reversed rule) rule) i v sets)) on (reversed-decides rule i v sets h t d)
+  pub turn-past : (i : ℕ) → length (rule .cells) ≤ i → SamePosition turn i rule i
+  turn-past i h = cond-both b (reversed rule) rule (λ x. SamePosition x i rule i) (λ _. reversed-past rule i h) (λ _. same-position rule i)
 
-  -- nothing has support past the width
-  pub turn-past : (i v : ℕ) (sets : List ℕ) → length (rule .cells) ≤ i → Supported turn i v sets → ⊥
-  turn-past i v sets h s = omega (arith, s .within, turn-width)
+  pub turn-off : b ≡ false → (i : ℕ) → SamePosition turn i rule i
+  turn-off off i = subst (λ t. SamePosition (cond t (reversed rule) rule) i rule i) (sym off) (same-position rule i)
 
 -- a rule with support is not missing
 pub supported-real : {m : BookMeaning} → Lawful m → (r : ℕ) {i v : ℕ} {sets : List ℕ} → Supported (m .rule r) i v sets → r < m .count

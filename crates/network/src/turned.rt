@@ -6,6 +6,7 @@ ghost use Prim.Native.Nat.{ℕ, _≤_};
 ghost use Rattle.network.specs.Book.{BookMeaning, Lawful, flag-at, turned};
 ghost use Rattle.network.specs.BookLaws.{turned-lawful};
 ghost use Rattle.network.specs.Fillings.{Meets};
+ghost use Rattle.network.specs.Made.{SamePosition};
 use crate::book::RuleBook;
 
 /// The book below with a flag for each of its first 64 rules: a flagged rule shows its cells last to first, and its rows with them.
@@ -24,12 +25,24 @@ impl<B: RuleBook> Turned<B> {
     }
 }
 
-impl<B> Turned<B> {
+impl<B: RuleBook> Turned<B> {
     /// Whether a rule is turned round.
     fn flagged(&self, rule: u16) -> bool
         ensures { λ r. ⌜ r ≡ flag-at (now (self .entry) .flags) rule ⌝ }
     {
         rule < 64 && self.flags[rule as usize]
+    }
+
+    /// Where the rule below has what stands at a position here; a missing position is missing there too.
+    fn position_below(&self, rule: u16, position: u8) -> u8
+        ensures { λ r. ⌜ SamePosition (turned (flag-at (now (self .entry) .flags)) (B·RuleBook .meaning (now (self .entry) .below)) .rule rule) position (B·RuleBook .meaning (now (self .entry) .below) .rule rule) r ⌝ }
+    {
+        let width = self.below.width(rule);
+        if self.flagged(rule) && position < width {
+            width - 1 - position
+        } else {
+            position
+        }
     }
 }
 
@@ -47,27 +60,11 @@ pub impl<B: RuleBook> RuleBook for Turned<B> as TurnedBook {
     }
 
     fn cell(&self, rule: u16, position: u8) -> u8 {
-        if !self.flagged(rule) {
-            return self.below.cell(rule, position);
-        }
-        let width = self.below.width(rule);
-        if position < width {
-            self.below.cell(rule, width - 1 - position)
-        } else {
-            255
-        }
+        self.below.cell(rule, self.position_below(rule, position))
     }
 
     fn supported(&self, rule: u16, position: u8, place: u8, sets: &[u64]) -> bool {
-        if !self.flagged(rule) {
-            return self.below.supported(rule, position, place, sets);
-        }
-        let width = self.below.width(rule);
-        if position < width {
-            self.below
-                .supported(rule, width - 1 - position, place, sets)
-        } else {
-            false
-        }
+        self.below
+            .supported(rule, self.position_below(rule, position), place, sets)
     }
 }

@@ -47,10 +47,8 @@ fn is_within(bytes: &[u8], rule: &RowsRule, row: u32, masks: [u64; 4]) -> bool
     ensures { λ r. ⌜ Decides r (Within (now (bytes .entry)) (now (rule .entry)) row masks) ⌝ }
 {
     for position in 0..rule.width {
-        if !has(
-            masks[position as usize],
-            place_at(bytes, rule, row, position),
-        ) {
+        let place = place_at(bytes, rule, row, position);
+        if !has(masks[position as usize], place) {
             return false;
         }
     }
