@@ -3,9 +3,9 @@ use mathlib.Core.Path.{_≡_}
 use mathlib.Core.List.{List}
 use mathlib.Core.Bool.{false}
 use mathlib.Core.Logic.{_↔_}
-use Prim.Native.Nat.{ℕ, _<_, _≤_}
+use Prim.Native.Nat.{ℕ, zero, suc, _*_, _<_, _≤_}
 use lib.ListN.{length, getD}
-use Rattle.bits.specs.Sets.{In}
+use Rattle.bits.specs.Sets.{In, size}
 use Rattle.network.specs.Book.{Remains}
 use Rattle.rows.specs.declared.rule.RowsRule.{RowsRule}
 use Rattle.rows.specs.Rows.{place-at, stores}
@@ -34,3 +34,8 @@ pub record Unstored (bytes : List ℕ) (rule : RowsRule) (masks places : List �
   pub begins : (k : ℕ) → k < n → getD row k 0 ≡ getD places k 0
   pub absent : stores bytes rule row ≡ false
   pub each : (k : ℕ) → n ≤ k → k < rule .width → Allowed masks k (getD row k 0)
+
+-- how many ways there are to choose allowed places at the first n positions
+abbrev pub rows-within : List ℕ → ℕ → ℕ
+rows-within masks zero = 1
+rows-within masks (suc n) = rows-within masks n * size (getD masks n 0)

@@ -1,12 +1,14 @@
 //! Rows of one rule: which are stored, and which are allowed.
 ghost use mathlib.Core.Path.{_≡_};
+ghost use mathlib.Core.List.{[]};
 ghost use Prim.Native.Nat.{ℕ, _<_, _≤_};
 ghost use lib.ListN.{length, getD};
 ghost use Rattle.std.specs.Orderings.{Decides};
 ghost use Rattle.network.specs.Book.{Remains};
 ghost use Rattle.rows.specs.Rows.{place-at};
-ghost use Rattle.rows.specs.Support.{Allows, Within, Same, Unstored};
+ghost use Rattle.rows.specs.Support.{Allows, Within, Same, Unstored, rows-within};
 use crate::rule::RowsRule;
+use bits::count;
 use bits::has;
 use bits::only;
 
@@ -94,15 +96,33 @@ fn is_stored(bytes: &[u8], rule: &RowsRule, places: [u8; 4]) -> bool
     false
 }
 
-/// Whether some row with allowed places only, that begins with the first `at` of these places, is not stored.
-/// It stops at the first. The rows tried are all different, and each but the last is stored, so it tries one more than are stored at most.
-pub fn some_unstored(
-    bytes: &[u8],
-    rule: &RowsRule,
-    masks: [u64; 4],
-    places: [u8; 4],
-    at: u8,
-) -> bool
+/// How many rows have allowed places only.
+fn allowed_rows(rule: &RowsRule, masks: [u64; 4]) -> u32
+    requires { ⌜ now rule .width ≤ 4 ⌝ }
+    ensures { λ r. ⌜ r ≡ rows-within masks (now (rule .entry) .width) ⌝ }
+{
+    let mut rows = 1;
+    for position in 0..rule.width {
+        rows *= count(masks[position as usize]) as u32;
+    }
+    rows
+}
+
+/// Whether some row with allowed places only is not stored.
+/// Where more rows are allowed than stored, one is not, and none is tried. So no more rows are tried than are stored.
+pub fn some_unstored(bytes: &[u8], rule: &RowsRule, masks: [u64; 4]) -> bool
+    requires { ⌜ now rule .width ≤ 4 ⌝ }
+    ensures { λ r. ⌜ Decides r (Unstored (now (bytes .entry)) (now (rule .entry)) masks [] 0) ⌝ }
+{
+    let rows = allowed_rows(rule, masks);
+    if rows > rule.count {
+        return true;
+    }
+    rows > 0 && goes_on(bytes, rule, masks, [0; 4], 0)
+}
+
+/// Whether some row with allowed places only, that begins with the first `at` of these places, is not stored. It stops at the first.
+fn goes_on(bytes: &[u8], rule: &RowsRule, masks: [u64; 4], places: [u8; 4], at: u8) -> bool
     requires narrow { ⌜ now rule .width ≤ 4 ⌝ }
     requires within { ⌜ at ≤ now rule .width ⌝ }
     ensures { λ r. ⌜ Decides r (Unstored (now (bytes .entry)) (now (rule .entry)) masks places at) ⌝ }
@@ -114,7 +134,7 @@ pub fn some_unstored(
         if has(masks[at as usize], place) {
             let mut next = places;
             next[at as usize] = place;
-            if some_unstored(bytes, rule, masks, next, at + 1) {
+            if goes_on(bytes, rule, masks, next, at + 1) {
                 return true;
             }
         }

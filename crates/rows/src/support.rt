@@ -44,7 +44,7 @@ pub impl<'a> RuleBook for RowsBook<'a> as RowsRuleBook {
         let masks = allowed(rule, position, place, sets);
         match rule.kind {
             Kind::Permitted => some_stored(self.bytes, rule, masks),
-            Kind::Forbidden => some_unstored(self.bytes, rule, masks, [0; 4], 0),
+            Kind::Forbidden => some_unstored(self.bytes, rule, masks),
         }
     }
 }

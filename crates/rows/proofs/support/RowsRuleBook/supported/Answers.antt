@@ -1,5 +1,5 @@
 use mathlib.Core.Path.{_≡_, sym, subst}
-use mathlib.Core.List.{List, [], _∷_}
+use mathlib.Core.List.{[]}
 use Prim.Native.Nat.{ℕ}
 use native.Mathlib.Omega.{arith}
 use lib.ListN.{getD}
@@ -30,10 +30,7 @@ some-stored-requires c κs =
 pub some-unstored-requires : need.some-unstored-requires
 some-unstored-requires c κs =
     let b = c .args .self .now in
-    record {
-      narrow = narrow (b .rules .now) (b .bytes .now) (b .ok) (c .args .rule) (c .args .position) (c .width .result) (c .width .ensures) (c .if-position-width .left);
-      within = omega arith;
-    }
+    narrow (b .rules .now) (b .bytes .now) (b .ok) (c .args .rule) (c .args .position) (c .width .result) (c .width .ensures) (c .if-position-width .left)
 
 pub returns-in-Permitted : need.returns-in-Permitted
 returns-in-Permitted c =
@@ -54,4 +51,4 @@ returns-in-Forbidden c =
     let w = within (b .rules .now) bytes (b .ok) (c .args .rule) (c .args .position) (c .width .result) (c .width .ensures) (c .if-position-width .left) in
     subst (λ kind. Decides (c .some-unstored .result) (Supported (of-kind bytes rule kind) (c .args .position) (c .args .place) (c .args .sets .now))) (sym (c .in-Forbidden .is))
     (forbidden-decides bytes rule n (c .args .position) (c .args .place) w (c .args .sets .now) (c .allowed-masks .result) (c .allowed-masks .ensures)
-    (0 ∷ 0 ∷ 0 ∷ 0 ∷ []) (c .some-unstored .result) (c .some-unstored .ensures))
+    [] (c .some-unstored .result) (c .some-unstored .ensures))

@@ -8,8 +8,8 @@ use Rattle.std.proofs.shelf.Tests.{false≢true, cases-lt, not-true, not-from-f
 use Rattle.std.proofs.shelf.Ways.{not-from-decides}
 use Rattle.rows.specs.Support.{Allowed, Unstored}
 use Rattle.rows.proofs.Finding.{last-yes, last-no, step-yes, step-no}
-use Rattle.rows.proofs.search.+some_unstored.Needs as need
-use Rattle.rows.proofs.search.+some_unstored.Needs.{then-has·else-some-unstored, else-has}
+use Rattle.rows.proofs.search.+goes_on.Needs as need
+use Rattle.rows.proofs.search.+goes_on.Needs.{then-has·else-goes-on, else-has}
 
 pub returns-then-at-rule : need.returns-then-at-rule
 returns-then-at-rule t c =
@@ -23,21 +23,21 @@ returns-then-at-rule t c =
           (cases-bool (c .is-stored .result)))),
     )
 
-pub returns-then-some-unstored : need.returns-then-some-unstored
-returns-then-some-unstored t c = (
+pub returns-then-goes-on : need.returns-then-goes-on
+returns-then-goes-on t c = (
   (λ _. step-yes (c .args .bytes .now) (c .args .rule .now) (c .args .masks) (c .args .places) (c .args .at) (c .loop-place .place) (omega arith)
-      (c .has .ensures .0 (c .if-has .taken)) (c .if-some-unstored .ensures tt .0 refl)),
+      (c .has .ensures .0 (c .if-has .taken)) (c .if-goes-on .ensures tt .0 refl)),
   (λ _. refl),
 )
 
 pub loop-place-again : need.loop-place-again
 loop-place-again t c =
     elim (c .if-has .came) [
-      | then-has·else-some-unstored w ↦
+      | then-has·else-goes-on w ↦
           λ u h. ⊎-elim
           (λ b. c .loop-place .inv u b)
           (λ b. step-no (c .args .bytes .now) (c .args .rule .now) (c .args .masks) (c .args .places) (c .args .at) (c .loop-place .place) (omega arith)
-          (λ found. false≢true (w .if-some-unstored .ensures tt .1 found)) u (omega arith))
+          (λ found. false≢true (w .if-goes-on .ensures tt .1 found)) u (omega arith))
           (cases-lt (getD (u .row) (c .args .at) 0) (c .loop-place .place))
       | else-has w ↦
           λ u h. ⊎-elim

@@ -1,10 +1,10 @@
 use Prim.Native.Nat.{ℕ, _-_, _<_}
 use lib.ListN.{getD}
 use Rattle.rows.specs.Support.{Unstored}
-use Rattle.rows.proofs.search.+some_unstored.Given as given
+use Rattle.rows.proofs.search.+goes_on.Given as given
 
-abbrev pub μ-some-unstored : given.MeasureT-some-unstored
-μ-some-unstored l = l .rule .now .width - l .at
+abbrev pub μ-goes-on : given.MeasureT-goes-on
+μ-goes-on l = l .rule .now .width - l .at
 
 -- no row goes on with a place below
 abbrev pub Inv-loop-place : given.InvT-loop-place
