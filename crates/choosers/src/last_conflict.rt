@@ -11,6 +11,7 @@ use crate::chooser::Figure;
 use crate::open::is_open;
 
 /// Holds the cell that failed until that cell stood or a run begins, and names it while it is open; else it names what the chooser below names.
+#[derive(Drop)]
 pub struct LastConflict<C> {
     pub below: C,
     pub held: Option<u8>,

@@ -3,4 +3,6 @@ pub mod chooser;
 pub mod fewest;
 pub mod last_conflict;
 pub mod open;
+#[cfg(test)]
+mod tests;
 pub mod weighted;

@@ -9,6 +9,7 @@ ghost use Rattle.network.specs.Made.{MeetsBook, MeetsFirst};
 use crate::book::RuleBook;
 
 /// The first book's rules, then the second's; the count stops at 65,535.
+#[derive(Drop)]
 pub struct Joined<A, B> {
     pub first: A,
     pub second: B,

@@ -10,6 +10,7 @@ ghost use Rattle.network.specs.Made.{SamePosition};
 use crate::book::RuleBook;
 
 /// The book below with a flag for each of its first 64 rules: a flagged rule shows its cells last to first, and its rows with them.
+#[derive(Drop)]
 pub struct Turned<B> {
     pub below: B,
     pub flags: [bool; 64],

@@ -4,3 +4,5 @@ pub mod check;
 pub mod rule;
 mod search;
 pub mod support;
+#[cfg(test)]
+mod tests;
