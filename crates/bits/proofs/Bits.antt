@@ -5,7 +5,7 @@ use mathlib.Core.List.{List, [], _∷_}
 use Prim.Native.Nat.{ℕ, zero, suc, _+_, _-_, _*_, _/_, _%_, _^_, _<_, _≤_}
 use native.Mathlib.Nat.{div-mul-le-self, div-eq-of-lt, div-self, mul-div-cancel-left, mul-mod-left, pow-suc, mul-le-mul-right, le-trans, one-mul}
 use native.Mathlib.Omega.{arith}
-use lib.Bits.{bitAnd, bitOr, bitXor, xor-shr, xor-mod, or-shr, or-mod, and-high, xor-add-and}
+use lib.Bits.{bitAnd, bitOr, bitXor, xor-shr, xor-mod, or-shr, or-mod, or-zero-r, and-shr, and-mod, and-zero-r, and-high, xor-add-and}
 use lib.Pow.{pow-pos, pow-add, pow-lt}
 use lib.ListN.{length, getD, set}
 use Rattle.std.proofs.shelf.Tests.{cases-order, cases-eq}
@@ -74,6 +74,24 @@ mark-more s v w h = or-bit s (2 ^ v) w ∙ ap (λ (x : ℕ). bitOr x (2 ^ v / 2 
     go zero h = refl
     go (suc zero) h = refl
     go (suc (suc x)) h = absurd (omega arith)
+
+pub mark-other : (s v w : ℕ) → w ≢ v → bitOr s (2 ^ v) / 2 ^ w % 2 ≡ s / 2 ^ w % 2
+mark-other s v w ne = or-bit s (2 ^ v) w ∙ ap (bitOr (s / 2 ^ w % 2)) (pow-other v w ne) ∙ or-zero-r (s / 2 ^ w % 2)
+
+-- keeping one place alone
+and-bit : (s p w : ℕ) → bitAnd s p / 2 ^ w % 2 ≡ bitAnd (s / 2 ^ w % 2) (p / 2 ^ w % 2)
+and-bit s p w = ap (λ (x : ℕ). x % 2) (and-shr s p w) ∙ and-mod (s / 2 ^ w) (p / 2 ^ w) 1
+
+pub keep-same : (s v : ℕ) → bitAnd s (2 ^ v) / 2 ^ v % 2 ≡ s / 2 ^ v % 2
+keep-same s v = and-bit s (2 ^ v) v ∙ ap (bitAnd (s / 2 ^ v % 2)) (pow-same v) ∙ go (s / 2 ^ v % 2) (omega arith)
+  where
+    go : (x : ℕ) → x < 2 → bitAnd x 1 ≡ x
+    go zero h = refl
+    go (suc zero) h = refl
+    go (suc (suc x)) h = absurd (omega arith)
+
+pub keep-other : (s v w : ℕ) → w ≢ v → bitAnd s (2 ^ v) / 2 ^ w % 2 ≡ 0
+keep-other s v w ne = and-bit s (2 ^ v) w ∙ ap (bitAnd (s / 2 ^ w % 2)) (pow-other v w ne) ∙ and-zero-r (s / 2 ^ w % 2)
 
 pub has-zero : (v : ℕ) → In 0 v → ⊥
 has-zero v h = let e : 0 / 2 ^ v ≡ 0 = div-eq-of-lt (pow-pos v) in omega arith

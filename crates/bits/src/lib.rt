@@ -4,7 +4,7 @@ ghost use mathlib.Core.Logic.{_≢_};
 ghost use Prim.Native.Nat.{ℕ, _-_, _/_, _%_, _^_, _<_, _≤_};
 ghost use lib.Bits.{bitOr};
 ghost use Rattle.std.specs.Orderings.{Decides};
-ghost use Rattle.bits.specs.Sets.{In, Lowest};
+ghost use Rattle.bits.specs.Sets.{In, Lowest, size};
 
 /// Whether `v` is in the set.
 pub fn has(set: u64, v: u8) -> bool
@@ -43,4 +43,11 @@ pub fn lowest(set: u64) -> u8
     ensures none { λ r. ⌜ (set ≡ 0 → r ≡ 64) ⌝ }
 {
     set.trailing_zeros() as u8
+}
+
+/// How many are in the set.
+pub fn count(set: u64) -> u8
+    ensures { λ r. ⌜ r ≡ size set ⌝ }
+{
+    set.count_ones() as u8
 }

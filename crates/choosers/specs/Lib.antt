@@ -1,1 +1,3 @@
 pub mod Choice
+pub mod Kinds
+pub mod KindLaws

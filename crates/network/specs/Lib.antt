@@ -1,2 +1,4 @@
 pub mod Book
 pub mod Fillings
+pub mod Made
+pub mod BookLaws

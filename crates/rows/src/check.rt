@@ -1,0 +1,65 @@
+//! Which stores make a rows book.
+ghost use mathlib.Core.Path.{_≡_};
+ghost use Prim.Native.Nat.{ℕ, _+_, _*_, _<_, _≤_};
+ghost use lib.ListN.{length};
+ghost use mathlib.Core.List.{[]};
+ghost use Rattle.std.specs.Orderings.{Decides};
+ghost use Rattle.rows.specs.Rows.{WellFormed, Fit, GoodCells};
+use crate::book::RowsBook;
+use crate::rule::RowsRule;
+use bits::has;
+use bits::with;
+
+impl<'a> RowsBook<'a> {
+    /// The book of these stores, and the book without rules where they are not well formed.
+    pub fn new(rules: &'a [RowsRule], bytes: &'a [u8]) -> RowsBook<'a>
+        ensures taken { λ r. ⌜ (WellFormed (now (rules .entry)) (now (bytes .entry)) → now (r .rules) ≡ now (rules .entry)) ⌝ }
+        ensures refused { λ r. ⌜ ((WellFormed (now (rules .entry)) (now (bytes .entry)) → ⊥) → now (r .rules) ≡ []) ⌝ }
+        ensures bytes { λ r. ⌜ now (r .bytes) ≡ now (bytes .entry) ⌝ }
+    {
+        if is_well_formed(rules, bytes) {
+            return RowsBook { rules, bytes };
+        }
+        RowsBook { rules: &[], bytes }
+    }
+}
+
+/// Whether there are at most 65,535 rules, and each is fit.
+pub fn is_well_formed(rules: &[RowsRule], bytes: &[u8]) -> bool
+    ensures { λ r. ⌜ Decides r (WellFormed (now (rules .entry)) (now (bytes .entry))) ⌝ }
+{
+    if rules.len() > 65535 {
+        return false;
+    }
+    for rule in rules {
+        if !is_fit(rule, bytes.len()) {
+            return false;
+        }
+    }
+    true
+}
+
+/// Whether the cells of a rule are good, and its rows are among so many bytes.
+fn is_fit(rule: &RowsRule, bytes: usize) -> bool
+    ensures { λ r. ⌜ Decides r (Fit (now (rule .entry)) bytes) ⌝ }
+{
+    has_good_cells(rule) && rule.start as usize + rule.count as usize * rule.width as usize <= bytes
+}
+
+/// Whether there are 1 to 4 cells, below 64 and different.
+fn has_good_cells(rule: &RowsRule) -> bool
+    ensures { λ r. ⌜ Decides r (GoodCells (now (rule .entry))) ⌝ }
+{
+    if rule.width < 1 || rule.width > 4 {
+        return false;
+    }
+    let mut seen = 0;
+    for position in 0..rule.width {
+        let cell = rule.cells[position as usize];
+        if cell >= 64 || has(seen, cell) {
+            return false;
+        }
+        seen = with(seen, cell);
+    }
+    true
+}
