@@ -40,9 +40,9 @@ pub data Wrong (s : Sheet) (k : ℕ) : List ℕ → LoadFault → Type 0 where
   -- one too many
   too-many : {t h l : ℕ} {r : List ℕ} → Fits s t → t ≢ 4 → h * 256 + l ≤ length r → Full s t → Wrong s k (t ∷ h ∷ l ∷ r) (Many k)
   -- content that is no good list, no good rows rule, or no good formula
-  bad-list : {h l : ℕ} {c r : List ℕ} → Fits s 1 → (Full s 1 → ⊥) → length c ≡ h * 256 + l → ((zs : List ℤ) → GoodList zs → c ≡ listBytes zs → ⊥) → Wrong s k (1 ∷ h ∷ l ∷ (c ++ r)) (Rule (ListFault k))
-  bad-rows : {h l : ℕ} {c r : List ℕ} → Fits s 2 → (Full s 2 → ⊥) → length c ≡ h * 256 + l → ((x : RowsField) → GoodRows (s .lists) x → c ≡ rowsBytes x → ⊥) → Wrong s k (2 ∷ h ∷ l ∷ (c ++ r)) (Rule (RowsFault k))
-  bad-formula : {h l j : ℕ} {c r : List ℕ} {f : Flaw} → (Full s 3 → ⊥) → length c ≡ h * 256 + l → First (length (s .lists)) c f j → Wrong s k (3 ∷ h ∷ l ∷ (c ++ r)) (Rule (InFormula (record { flaw = f; offset = k + 3 + j })))
+  bad-list : {h l : ℕ} (c r : List ℕ) → Fits s 1 → (Full s 1 → ⊥) → length c ≡ h * 256 + l → ((zs : List ℤ) → GoodList zs → c ≡ listBytes zs → ⊥) → Wrong s k (1 ∷ h ∷ l ∷ (c ++ r)) (Rule (ListFault k))
+  bad-rows : {h l : ℕ} (c r : List ℕ) → Fits s 2 → (Full s 2 → ⊥) → length c ≡ h * 256 + l → ((x : RowsField) → GoodRows (s .lists) x → c ≡ rowsBytes x → ⊥) → Wrong s k (2 ∷ h ∷ l ∷ (c ++ r)) (Rule (RowsFault k))
+  bad-formula : {h l j : ℕ} {f : Flaw} (c r : List ℕ) → (Full s 3 → ⊥) → length c ≡ h * 256 + l → First (length (s .lists)) c f j → Wrong s k (3 ∷ h ∷ l ∷ (c ++ r)) (Rule (InFormula (record { flaw = f; offset = k + 3 + j })))
 
 -- the file is that of a good sheet
 pub record ReadAs (file : List ℕ) (s : Sheet) : Type 0 where
