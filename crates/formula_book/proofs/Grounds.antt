@@ -1,0 +1,38 @@
+-- A grounded node stands for its tree. Assumes nothing.
+use mathlib.Core.Path.{_≡_, refl}
+use mathlib.Core.Bool.{Bool, true, false, _&&_}
+use mathlib.Core.List.{List}
+use Prim.Native.Nat.{ℕ, zero, suc, _<_}
+use lib.Dec.{ltb}
+use lib.ListN.{length, getD}
+use Rattle.std.proofs.shelf.Tests.{and-parts, ltb-true, false≢true}
+use Rattle.formulas.specs.declared.node.Node.{Node}
+use Rattle.formulas.specs.declared.node.Node.the-variants.{Free, Compare, Not, And, Or}
+use Rattle.formulas.specs.Layout.{Stands, Standing}
+use Rattle.formula_book.specs.Trees.{node-tree, tree, node-grounded, grounded}
+
+-- a node whose children stand for their trees
+node-stands : (n : ℕ) (ns : List Node) → ((j : ℕ) → grounded n ns j ≡ true → Stands ns j (tree n ns j)) →
+  (i : ℕ) (x : Node) → getD ns i Free ≡ x → node-grounded (grounded n ns) i x ≡ true → Stands ns i (node-tree (tree n ns) x)
+node-stands n ns ih i Free e g = absurd (false≢true g)
+node-stands n ns ih i (Compare a o b) e g = e
+node-stands n ns ih i (Not j) e g =
+    let p = and-parts (ltb j i) (grounded n ns j) g in
+    (j, ltb-true j i (p .0), e, ih j (p .1))
+node-stands n ns ih i (And j k) e g =
+    let p = and-parts (ltb j i) (ltb k i && (grounded n ns j && grounded n ns k)) g in
+    let q = and-parts (ltb k i) (grounded n ns j && grounded n ns k) (p .1) in
+    let r = and-parts (grounded n ns j) (grounded n ns k) (q .1) in
+    (j, k, ltb-true j i (p .0), ltb-true k i (q .0), e, ih j (r .0), ih k (r .1))
+node-stands n ns ih i (Or j k) e g =
+    let p = and-parts (ltb j i) (ltb k i && (grounded n ns j && grounded n ns k)) g in
+    let q = and-parts (ltb k i) (grounded n ns j && grounded n ns k) (p .1) in
+    let r = and-parts (grounded n ns j) (grounded n ns k) (q .1) in
+    (j, k, ltb-true j i (p .0), ltb-true k i (q .0), e, ih j (r .0), ih k (r .1))
+
+pub grounded-stands : (n : ℕ) (ns : List Node) (i : ℕ) → grounded n ns i ≡ true → Stands ns i (tree n ns i)
+grounded-stands zero ns i e = absurd (false≢true e)
+grounded-stands (suc n) ns i e = node-stands n ns (grounded-stands n ns) i (getD ns i Free) refl e
+
+pub rooted-standing : (ns : List Node) (i : ℕ) → i < length ns → grounded (suc i) ns i ≡ true → Standing ns i
+rooted-standing ns i h g = record { is = tree (suc i) ns i; stands = grounded-stands (suc i) ns i g; within = h }

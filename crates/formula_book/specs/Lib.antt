@@ -1,0 +1,4 @@
+pub mod Trees
+pub mod Formulas
+pub mod Support
+pub mod FormulaLaws
