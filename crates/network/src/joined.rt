@@ -1,11 +1,9 @@
 //! Two books as one.
 ghost use mathlib.Core.Path.{_≡_};
-ghost use mathlib.Core.List.{List};
-ghost use mathlib.Core.Logic.{_↔_};
-ghost use Prim.Native.Nat.{ℕ, _+_, _-_, _≤_};
+ghost use Prim.Native.Nat.{_+_, _≤_};
 ghost use Rattle.network.specs.Book.{BookMeaning, Lawful, joined};
 ghost use Rattle.network.specs.BookLaws.{joined-lawful};
-ghost use Rattle.network.specs.Made.{MeetsBook, MeetsFirst};
+ghost use Rattle.network.specs.Made.{BothMet, CountedMet};
 use crate::book::RuleBook;
 
 /// The first book's rules, then the second's; the count stops at 65,535.
@@ -19,8 +17,8 @@ impl<A: RuleBook, B: RuleBook> Joined<A, B> {
     /// A filling meets the book made exactly if it meets both books, of the second one as many rules as are counted.
     pub fn new(first: A, second: B) -> Joined<A, B>
         ensures made { λ r. ⌜ r ≡ record { first = first; second = second } ⌝ }
-        ensures both { λ r. ⌜ (A·RuleBook .meaning first .count + B·RuleBook .meaning second .count ≤ 65535 → (f : List ℕ) → MeetsBook (joined (A·RuleBook .meaning (r .first)) (B·RuleBook .meaning (r .second))) f ↔ MeetsBook (A·RuleBook .meaning first) f × MeetsBook (B·RuleBook .meaning second) f) ⌝ }
-        ensures stopped { λ r. ⌜ ((f : List ℕ) → MeetsBook (joined (A·RuleBook .meaning (r .first)) (B·RuleBook .meaning (r .second))) f ↔ MeetsBook (A·RuleBook .meaning first) f × MeetsFirst (65535 - A·RuleBook .meaning first .count) (B·RuleBook .meaning second) f) ⌝ }
+        ensures both { λ r. ⌜ (A·RuleBook .meaning first .count + B·RuleBook .meaning second .count ≤ 65535 → BothMet (A·RuleBook .meaning first) (B·RuleBook .meaning second) (joined (A·RuleBook .meaning (r .first)) (B·RuleBook .meaning (r .second)))) ⌝ }
+        ensures counted { λ r. ⌜ CountedMet (A·RuleBook .meaning first) (B·RuleBook .meaning second) (joined (A·RuleBook .meaning (r .first)) (B·RuleBook .meaning (r .second))) ⌝ }
     {
         Joined { first, second }
     }

@@ -1,12 +1,8 @@
 //! A book whose flagged rules are turned round.
 ghost use mathlib.Core.Path.{_≡_};
-ghost use mathlib.Core.List.{List};
-ghost use mathlib.Core.Logic.{_↔_};
-ghost use Prim.Native.Nat.{ℕ, _≤_};
 ghost use Rattle.network.specs.Book.{BookMeaning, Lawful, flag-at, turned};
 ghost use Rattle.network.specs.BookLaws.{turned-lawful};
-ghost use Rattle.network.specs.Fillings.{Meets};
-ghost use Rattle.network.specs.Made.{SamePosition};
+ghost use Rattle.network.specs.Made.{SameMet, SamePosition};
 use crate::book::RuleBook;
 
 /// The book below with a flag for each of its first 64 rules: a flagged rule shows its cells last to first, and its rows with them.
@@ -20,7 +16,7 @@ impl<B: RuleBook> Turned<B> {
     /// Whatever the flags, a filling meets a rule of the book made exactly if it meets the rule below.
     pub fn new(below: B, flags: [bool; 64]) -> Turned<B>
         ensures made { λ r. ⌜ r ≡ record { below = below; flags = flags } ⌝ }
-        ensures same { λ r. ⌜ ((k : ℕ) (f : List ℕ) → Meets (turned (flag-at (r .flags)) (B·RuleBook .meaning (r .below)) .rule k) f ↔ Meets (B·RuleBook .meaning below .rule k) f) ⌝ }
+        ensures same { λ r. ⌜ SameMet (B·RuleBook .meaning below) (turned (flag-at (r .flags)) (B·RuleBook .meaning (r .below))) ⌝ }
     {
         Turned { below, flags }
     }

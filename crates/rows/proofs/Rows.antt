@@ -1,18 +1,21 @@
 -- Rows that are stored. Assumes nothing.
 use mathlib.Core.Path.{_≡_, refl, sym, ap, _∙_}
 use mathlib.Core.List.{List, map}
-use mathlib.Core.Bool.{Bool, true, false}
+use mathlib.Core.Bool.{not}
 use Prim.Native.Nat.{ℕ, _<_}
 use native.Mathlib.Omega.{arith}
 use lib.ListN.{length, getD}
+use lib.Dec.{eqb}
 use Rattle.std.specs.Iters.{counting}
 use Rattle.std.specs.Orderings.{Decides}
 use Rattle.std.specs.shelf.Text.{sameBytes}
 use Rattle.std.proofs.shelf.Counted.{length-map-counting, getD-map-counting, fill-by-all}
 use Rattle.std.proofs.shelf.Equals.{sameBytes-decides}
-use Rattle.std.proofs.shelf.Ways.{decides-below-or}
+use Rattle.std.proofs.shelf.Ways.{decides-below-or, decides-like, decides-and, decides-not, decides-eqb}
+use Rattle.rows.specs.declared.rule.Kind.{Kind}
+use Rattle.rows.specs.declared.rule.Kind.the-variants.{Permitted, Forbidden}
 use Rattle.rows.specs.declared.rule.RowsRule.{RowsRule}
-use Rattle.rows.specs.Rows.{place-at, row-at, among, stores}
+use Rattle.rows.specs.Rows.{place-at, row-at, among, stores, permits-of, Permits}
 use Rattle.rows.specs.Support.{Same}
 
 module _ (bytes : List ℕ) (rule : RowsRule) where
@@ -47,3 +50,12 @@ module _ (bytes : List ℕ) (rule : RowsRule) where
 
     pub front-same : (j : ℕ) → row-at bytes rule j ≡ front → Same bytes rule j places
     front-same j e k h = sym (row-place j k 0 h) ∙ ap (λ row. getD row k 0) e ∙ front-place k h
+
+-- the test tells what it stands for
+pub permits-decides : (kind : Kind) (bytes : List ℕ) (rule : RowsRule) (row : List ℕ) → Decides (permits-of kind bytes rule row) (Permits kind bytes rule row)
+permits-decides Permitted bytes rule row = stores-decides bytes rule row
+permits-decides Forbidden bytes rule row =
+    decides-like (permits-of Forbidden bytes rule row)
+    (λ p. (p .0, λ j h e. p .1 (j, h, e)))
+    (λ p. (p .0, λ s. p .1 (s .0) (s .1) (s .2)))
+    (decides-and (eqb (length row) (rule .width)) (not (stores bytes rule row)) (decides-eqb (length row) (rule .width)) (decides-not (stores bytes rule row) (stores-decides bytes rule row)))

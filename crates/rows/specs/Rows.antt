@@ -50,7 +50,12 @@ among bytes rule row (suc n) = sameBytes (row-at bytes rule n) row || among byte
 abbrev pub stores : List ℕ → RowsRule → List ℕ → Bool
 stores bytes rule row = among bytes rule row (rule .count)
 
--- a rule of permitted rows permits the rows that it stores, one of forbidden rows all others of its width
+-- a rule of permitted rows permits exactly the rows that it stores, one of forbidden rows exactly those of its width that it does not store
+abbrev pub Permits : Kind → List ℕ → RowsRule → List ℕ → Type 0
+Permits Permitted bytes rule row = (j : ℕ) × (j < rule .count) × (row-at bytes rule j ≡ row)
+Permits Forbidden bytes rule row = (length row ≡ rule .width) × ((j : ℕ) → j < rule .count → row-at bytes rule j ≡ row → ⊥)
+
+-- the same, as a test
 abbrev pub permits-of : Kind → List ℕ → RowsRule → List ℕ → Bool
 permits-of Permitted bytes rule row = stores bytes rule row
 permits-of Forbidden bytes rule row = eqb (length row) (rule .width) && not (stores bytes rule row)

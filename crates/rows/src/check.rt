@@ -1,10 +1,10 @@
 //! Which stores make a rows book.
 ghost use mathlib.Core.Path.{_≡_};
 ghost use Prim.Native.Nat.{ℕ, _+_, _*_, _<_, _≤_};
-ghost use lib.ListN.{length};
-ghost use mathlib.Core.List.{[]};
+ghost use lib.ListN.{length, getD};
+ghost use mathlib.Core.List.{List, []};
 ghost use Rattle.std.specs.Orderings.{Decides};
-ghost use Rattle.rows.specs.Rows.{WellFormed, Fit, GoodCells};
+ghost use Rattle.rows.specs.Rows.{WellFormed, Fit, GoodCells, Permits, rows-book, no-rows};
 use crate::book::RowsBook;
 use crate::rule::RowsRule;
 use bits::has;
@@ -16,6 +16,7 @@ impl<'a> RowsBook<'a> {
         ensures taken { λ r. ⌜ (WellFormed (now (rules .entry)) (now (bytes .entry)) → now (r .rules) ≡ now (rules .entry)) ⌝ }
         ensures refused { λ r. ⌜ ((WellFormed (now (rules .entry)) (now (bytes .entry)) → ⊥) → now (r .rules) ≡ []) ⌝ }
         ensures bytes { λ r. ⌜ now (r .bytes) ≡ now (bytes .entry) ⌝ }
+        ensures means { λ r. ⌜ ((k : ℕ) (row : List ℕ) → Decides (rows-book (now (r .rules)) (now (r .bytes)) .rule k .permits row) (Permits (getD (now (r .rules)) k no-rows .kind) (now (r .bytes)) (getD (now (r .rules)) k no-rows) row)) ⌝ }
     {
         if is_well_formed(rules, bytes) {
             return RowsBook { rules, bytes };

@@ -7,4 +7,4 @@ returns g c =
     let first = g .A·RuleBook .meaning (c .args .first) in
     let second = g .B·RuleBook .meaning (c .args .second) in
     let bounded = g .A·RuleBook .laws (c .args .first) .bounded in
-    record { made = refl; both = joined-whole first second bounded; stopped = joined-meets first second bounded }
+    record { made = refl; both = joined-whole first second bounded; counted = joined-meets first second bounded }
