@@ -1,0 +1,5 @@
+pub mod MoreBits
+pub mod Turning
+pub mod Steps
+pub mod Settling
+pub mod Unique
