@@ -48,6 +48,15 @@ support-of rule sets f i fits hi ins met = record {
   remain = λ k l. subst (λ (x : ℕ). Remains sets (getD (rule .cells) k 255) x) (sym (row-at rule f k 64 l)) (ins .each (getD (rule .cells) k 255) (fits k l));
 }
 
+pub marks-refl : (listed used : ℕ) → Marks listed used used
+marks-refl listed used = record { more = λ r h. h; among = λ r h. inl h }
+
+pub marks-trans : {listed a b c : ℕ} → Marks listed a b → Marks listed b c → Marks listed a c
+marks-trans p q = record {
+  more = λ r h. q .more r (p .more r h);
+  among = λ r h. elim (q .among r h) [ inl k ↦ p .among r k | inr k ↦ inr k ];
+}
+
 -- ---- what every step, and so every row of steps, keeps
 module _ (m : BookMeaning) (listed n : ℕ) (suits : Suits m n) where
   pub record Sound (s t : State) : Type 0 where
@@ -62,7 +71,7 @@ module _ (m : BookMeaning) (listed n : ℕ) (suits : Suits m n) where
   sound-refl s = record {
     long = λ h. h;
     inside = λ h c v k. k;
-    marks = record { more = λ r h. h; among = λ r h. inl h };
+    marks = marks-refl listed (s .used);
     largest = λ h other w cl. w;
     kept = λ h f ins met. ins;
     falls = λ h. inl refl;
@@ -73,12 +82,6 @@ module _ (m : BookMeaning) (listed n : ℕ) (suits : Suits m n) where
   falls-trans {s} {t} {u} (inl p) (inr q) = inr (omega (arith, ap (λ (x : State). total (x .sets)) p))
   falls-trans {s} {t} {u} (inr p) (inl q) = inr (omega (arith, ap (λ (x : State). total (x .sets)) q))
   falls-trans (inr p) (inr q) = inr (omega arith)
-
-  marks-trans : {a b c : ℕ} → Marks listed a b → Marks listed b c → Marks listed a c
-  marks-trans p q = record {
-    more = λ r h. q .more r (p .more r h);
-    among = λ r h. elim (q .among r h) [ inl k ↦ p .among r k | inr k ↦ inr k ];
-  }
 
   sound-trans : {s t u : State} → Sound s t → Sound t u → Sound s u
   sound-trans a b = record {
@@ -188,7 +191,7 @@ module _ (m : BookMeaning) (listed n : ℕ) (suits : Suits m n) where
     supported-of (rw long (suits .cells r i hi)) refl h at-place
 
   -- ---- settling
-  sound-settles : {s t : State} → Settles m listed s t → Sound s t
+  pub sound-settles : {s t : State} → Settles m listed s t → Sound s t
   sound-settles (rest p e) = sound-rules p
   sound-settles (again p d q) = sound-trans (sound-rules p) (sound-settles q)
 
