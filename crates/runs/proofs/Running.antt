@@ -115,7 +115,7 @@ module _ (m : BookMeaning) (listed n : ℕ) (suits : Suits m n) {C : Type 0} (k 
 
     explores-found : {x y : C} {s u : State} → length (s .sets) ≡ n → Full (s .sets) → Closed m listed (s .sets) → Explores k m listed x s true y u → Found s u
     explores-found long full closed (filled {x = x} {s = s} e) =
-        record { long = long; full = full; inside = λ c v h. h; closed = closed; single = none-open m listed s k naming x e (omega arith) }
+        record { long = long; full = full; inside = λ c v h. h; closed = closed; single = none-open m listed (s .sets) (s .weights) k naming x e (omega arith) }
     explores-found long full closed (stands {s = s} {t = t} {c = c} {v = v} h p q) =
         let a = chosen k naming h in
         let b = settle (alone-long s c v long) (alone-full (s .sets) c v (a .within) (a .there .0) full) p in
@@ -213,3 +213,7 @@ module _ {C : Type 0} (k : Machine C) (naming : Naming k) (m : BookMeaning) (law
   pub run-fills : {x y : C} {ws ws′ sets : List ℕ} {l : Line} → Run k m start listed x ws l y ws′ sets → l .verdict ≡ 0 → Fills m start listed sets
   run-fills (ran {found = true} p) e = fills-of refl (searches-found m listed (length start) (ready .suits) k naming (ready .few) law refl (ready .full) p)
   run-fills (ran {found = false} p) e = absurd (omega arith)
+
+pub run-lists : {C : Type 0} {k : Machine C} {m : BookMeaning} {start : List ℕ} {listed : ℕ} {x y : C} {ws ws′ sets : List ℕ} {l : Line}
+    → Run k m start listed x ws l y ws′ sets → l .listed ≡ listed
+run-lists (ran p) = refl

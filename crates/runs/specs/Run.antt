@@ -19,7 +19,7 @@ Tried sets c v = Lowest (left-at sets c) v
 
 -- the chooser k, in the state x, names the cell c, and v is the place to try there
 pub record Choice {C : Type 0} (k : Machine C) (m : BookMeaning) (listed : ℕ) (x : C) (s : State) (c v : ℕ) : Type 0 where
-  pub named : k .names x (figures-of m listed s) ≡ c
+  pub named : k .names x (figures-of m listed (s .sets) (s .weights)) ≡ c
   pub some : c ≢ 255
   pub place : Tried (s .sets) c v
 
@@ -34,7 +34,7 @@ back s c v t = state (out-of (s .sets) c v) (t .used) (t .weights)
 mutual
   -- from settled sets to the end: true is a filling, false is none
   pub data Explores {C : Type 0} (k : Machine C) (m : BookMeaning) (listed : ℕ) : C → State → Bool → C → State → Type 0 where
-    filled : {x : C} {s : State} → k .names x (figures-of m listed s) ≡ 255 → Explores k m listed x s true x s
+    filled : {x : C} {s : State} → k .names x (figures-of m listed (s .sets) (s .weights)) ≡ 255 → Explores k m listed x s true x s
     stands : {x y : C} {s t u : State} {c v : ℕ} → Choice k m listed x s c v → Settles m listed (alone s c v) t
         → Explores k m listed (k .told x (Stood c)) t true y u → Explores k m listed x s true y u
     goes-on : {x y z : C} {s t u w : State} {c v : ℕ} {found : Bool} → Choice k m listed x s c v → TryFails k m listed x s c v y t

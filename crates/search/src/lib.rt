@@ -1,0 +1,2 @@
+//! A run: settling and tries, to a filling or to none. Uses `bits`, `network`, `choosers`, `runs` and `settling`.
+pub mod figures;
