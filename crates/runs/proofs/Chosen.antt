@@ -93,6 +93,10 @@ module _ (m : BookMeaning) (listed : ℕ) (sets weights : List ℕ) where
       ]
     ]
 
+    -- a cell that is named, and is not 255, is open
+    pub named-within : (c : ℕ) → c ≡ k .names x (figures-of m listed sets weights) → c ≢ 255 → (c < length sets) × (1 < size (left-at sets c))
+    named-within c e ne = open-within c (subst (λ (z : ℕ). Open (figures-of m listed sets weights) z) (sym e) (named-open (λ q. ne (e ∙ q))))
+
 -- what is known of a choice
 pub record Chosen (sets : List ℕ) (c v : ℕ) : Type 0 where
   pub within : c < length sets
@@ -101,6 +105,5 @@ pub record Chosen (sets : List ℕ) (c v : ℕ) : Type 0 where
 
 pub chosen : {C : Type 0} (k : Machine C) (naming : Naming k) {m : BookMeaning} {listed : ℕ} {x : C} {s : State} {c v : ℕ} → Choice k m listed x s c v → Chosen (s .sets) c v
 chosen k naming {m} {listed} {x} {s} {c} {v} h =
-    let o = subst (λ (z : ℕ). Open (figures-of m listed (s .sets) (s .weights)) z) (h .named) (named-open m listed (s .sets) (s .weights) k naming x (λ e. h .some (sym (h .named) ∙ e))) in
-    let p = open-within m listed (s .sets) (s .weights) c o in
+    let p = named-within m listed (s .sets) (s .weights) k naming x c (sym (h .named)) (h .some) in
     record { within = p .0; opened = p .1; there = tried-remains (s .sets) c v (p .1) (h .place) }
