@@ -66,7 +66,7 @@ fn figure<B: RuleBook>(book: &B, listed: u64, weights: &[u32], sets: &[u64], cel
 }
 
 /// The cell that the chooser names at the figures of all cells, 255 if none is open.
-pub fn choose<B: RuleBook, C: Chooser>(
+pub(crate) fn choose<B: RuleBook, C: Chooser>(
     book: &B,
     chooser: &C,
     listed: u64,

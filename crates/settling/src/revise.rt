@@ -23,19 +23,20 @@ fn revise_place<B: RuleBook>(
     book: &B,
     rule: u16,
     position: u8,
+    cell: u8,
     place: u8,
     sets: &mut [u64],
     used: &mut u64,
 ) -> Result<bool, Emptied>
     requires few { ⌜ rule < 64 ⌝ }
     requires small { ⌜ place < 64 ⌝ }
-    requires within { ⌜ cell-at (meaning (now book)) rule position < length (now sets) ⌝ }
+    requires there { ⌜ cell ≡ cell-at (meaning (now book)) rule position ⌝ }
+    requires within { ⌜ cell < length (now sets) ⌝ }
     ensures { λ r. ⌜ Cases r
         (λ removed. Leads (Revises (meaning (now (book .entry))) rule position place) (now (sets .entry)) (now (used .entry)) (now (sets .exit)) (now (used .exit)) × Report removed (now (sets .entry)) (now (sets .exit)))
         (λ e. (e .rule ≡ rule) × Spends (Empties (meaning (now (book .entry))) rule position place) rule (now (sets .entry)) (now (used .entry)) (now (sets .exit)) (now (used .exit))) ⌝ }
 {
-    let cell = book.cell(rule, position) as usize;
-    let left = sets[cell];
+    let left = sets[cell as usize];
     if !has(left, place) {
         return Ok(false);
     }
@@ -43,7 +44,7 @@ fn revise_place<B: RuleBook>(
         return Ok(false);
     }
     let rest = without(left, place);
-    sets[cell] = rest;
+    sets[cell as usize] = rest;
     *used = with(*used, rule as u8);
     if rest == 0 {
         return Err(Emptied { rule });
@@ -65,15 +66,16 @@ fn revise_position<B: RuleBook>(
         (λ removed. Leads (Position (meaning (now (book .entry))) rule position) (now (sets .entry)) (now (used .entry)) (now (sets .exit)) (now (used .exit)) × Report removed (now (sets .entry)) (now (sets .exit)))
         (λ e. (e .rule ≡ rule) × Spends (PositionFails (meaning (now (book .entry))) rule position) rule (now (sets .entry)) (now (used .entry)) (now (sets .exit)) (now (used .exit))) ⌝ }
 {
+    let cell = book.cell(rule, position);
     let mut removed = false;
     for place in 0..64 {
-        removed |= revise_place(book, rule, position, place, sets, used)?;
+        removed |= revise_place(book, rule, position, cell, place, sets, used)?;
     }
     Ok(removed)
 }
 
 /// The positions of one rule, in order; says whether any place was removed.
-pub fn revise_rule<B: RuleBook>(
+pub(crate) fn revise_rule<B: RuleBook>(
     book: &B,
     rule: u16,
     sets: &mut [u64],
