@@ -7,12 +7,12 @@ ghost use Rattle.network.specs.Book.{Remains};
 ghost use Rattle.runs.specs.Settle.{state, out-of};
 ghost use Rattle.runs.specs.Run.{Explores, TryStands, TryFails};
 ghost use Rattle.search.specs.Room.{Able};
-use crate::figures::choose;
 use bits::lowest;
 use bits::only;
 use bits::without;
 use choosers::chooser::Chooser;
 use choosers::chooser::Event;
+use figures::choose;
 use network::book::RuleBook;
 use settling::settle::settle;
 

@@ -1,4 +1,4 @@
-//! What a chooser is given: how many places remain at each cell, and its weighted degree.
+//! What a chooser is given: how many places remain at each cell, and its weighted degree. Uses `bits`, `network`, `choosers` and `runs`.
 ghost use mathlib.Core.Path.{_≡_};
 ghost use Prim.Native.Nat.{ℕ, _^_, _<_, _≤_};
 ghost use lib.Dec.{ltb};
@@ -66,7 +66,7 @@ fn figure<B: RuleBook>(book: &B, listed: u64, weights: &[u32], sets: &[u64], cel
 }
 
 /// The cell that the chooser names at the figures of all cells, 255 if none is open.
-pub(crate) fn choose<B: RuleBook, C: Chooser>(
+pub fn choose<B: RuleBook, C: Chooser>(
     book: &B,
     chooser: &C,
     listed: u64,
