@@ -1,9 +1,10 @@
 //! Revisions: of a place, of the places at a position, and of a rule's positions.
 ghost use mathlib.Core.Path.{_≡_};
 ghost use mathlib.Core.List.{List};
-ghost use Prim.Native.Nat.{ℕ, _<_};
+ghost use Prim.Native.Nat.{ℕ, _-_, _<_, _≤_};
 ghost use lib.ListN.{length};
 ghost use Rattle.std.specs.Results.{Cases};
+ghost use Rattle.bits.specs.Sets.{In};
 ghost use Rattle.runs.specs.Settle.{cell-at, Revises, Empties, Position, PositionFails, Takes, TakesFails};
 ghost use Rattle.runs.specs.Law.{Suits};
 ghost use Rattle.settling.specs.Report.{Report, Leads, Spends};
@@ -52,7 +53,16 @@ fn revise_place<B: RuleBook>(
     Ok(true)
 }
 
-/// The places at one position, from the lowest; says whether any was removed.
+/// One past the highest of a set of places, 0 where it is empty.
+fn past_highest(places: u64) -> u8
+    ensures few { λ r. ⌜ r ≤ 64 ⌝ }
+    ensures above { λ r. ⌜ ((v : ℕ) → r ≤ v → In places v → ⊥) ⌝ }
+    ensures highest { λ r. ⌜ (0 < r → In places (r - 1)) ⌝ }
+{
+    64 - places.leading_zeros() as u8
+}
+
+/// The places at one position, from the lowest; says whether any was removed. Those past the highest that remains are not looked at.
 fn revise_position<B: RuleBook>(
     book: &B,
     rule: u16,
@@ -68,7 +78,7 @@ fn revise_position<B: RuleBook>(
 {
     let cell = book.cell(rule, position);
     let mut removed = false;
-    for place in 0..64 {
+    for place in 0..past_highest(sets[cell as usize]) {
         removed |= revise_place(book, rule, position, cell, place, sets, used)?;
     }
     Ok(removed)
