@@ -1,0 +1,4 @@
+pub mod Settle
+pub mod Figures
+pub mod Run
+pub mod Law
