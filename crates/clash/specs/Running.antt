@@ -17,7 +17,7 @@ lasting c w = record { chooser = c; weights = w }
 
 -- the buffers of a run: a weight for each of 64 rules, the work buffer, and a set for each cell
 pub record Room (cells : ℕ) (weights work sets : List ℕ) : Type 0 where
-  pub weighed : length weights ≡ 64
+  pub weighed : 64 ≤ length weights
   pub free : 4096 ≤ length work
   pub same : length sets ≡ cells
 

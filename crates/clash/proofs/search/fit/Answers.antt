@@ -27,7 +27,7 @@ shrink-shrunk-requires g c κs =
     let z = size-most (m .listed) in
     record {
       room = record {
-        weighed = c .run-line .kept .weights ∙ c .pre .room .weighed;
+        weighed = omega (arith, c .run-line .kept .weights, c .pre .room .weighed);
         free = omega (arith, c .run-line .kept .work, c .pre .room .free);
         same = c .run-line .kept .sets ∙ c .pre .room .same;
       };
@@ -49,7 +49,7 @@ rounds-found-requires g c κs =
     let q = room (k .runs p) (k .laws p .lawful) s v r (h .1) (h .2) in
     record {
       room = record {
-        weighed = c .shrink-shrunk .kept .weights ∙ c .run-line .kept .weights ∙ c .pre .room .weighed;
+        weighed = omega (arith, c .shrink-shrunk .kept .weights, c .run-line .kept .weights, c .pre .room .weighed);
         free = omega (arith, c .shrink-shrunk .kept .work, c .run-line .kept .work, c .pre .room .free);
         same = c .shrink-shrunk .kept .sets ∙ c .run-line .kept .sets ∙ c .pre .room .same;
       };

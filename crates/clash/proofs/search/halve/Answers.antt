@@ -18,7 +18,7 @@ run-line-requires g c κs =
     record {
       ready = subst (λ (x : ℕ). g .T·Runner .ready (c .args .runner .now) (bitOr (c .args .round .found) x)) (sym (c .first .ensures)) (c .pre .ready ((c .loop-low .low + c .loop-low .high) / 2));
       room = record {
-        weighed = c .loop-low .kept .weights ∙ c .pre .room .weighed;
+        weighed = omega (arith, c .loop-low .kept .weights, c .pre .room .weighed);
         free = omega (arith, c .loop-low .kept .work, c .pre .room .free);
         same = c .loop-low .kept .sets ∙ c .pre .room .same;
       };

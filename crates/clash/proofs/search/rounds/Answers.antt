@@ -33,7 +33,7 @@ run-line-requires g c κs =
     record {
       ready = k .laws (c .args .runner .now) .part (c .rounds .found) d (c .rounds .inv .1 .among) (c .pre .ready);
       room = record {
-        weighed = c .rounds .kept .weights ∙ c .pre .room .weighed;
+        weighed = omega (arith, c .rounds .kept .weights, c .pre .room .weighed);
         free = omega (arith, c .rounds .kept .work, c .pre .room .free);
         same = c .rounds .kept .sets ∙ c .pre .room .same;
       };
@@ -68,7 +68,7 @@ halve-halved-requires g c κs =
     let some : 1 ≤ c .rounds .left = some-left (k .runs p) (k .fits p) (k .laws p .lawful) d (members d) (λ j h. member-has d j h .1) (members-subset d) (c .rounds .found) (c .rounds .left) (i .1) f in
     record {
       room = record {
-        weighed = c .run-line .kept .weights ∙ c .rounds .kept .weights ∙ c .pre .room .weighed;
+        weighed = omega (arith, c .run-line .kept .weights, c .rounds .kept .weights, c .pre .room .weighed);
         free = omega (arith, c .run-line .kept .work, c .rounds .kept .work, c .pre .room .free);
         same = c .run-line .kept .sets ∙ c .rounds .kept .sets ∙ c .pre .room .same;
       };

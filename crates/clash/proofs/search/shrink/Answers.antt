@@ -21,7 +21,7 @@ run-line-requires g c κs =
     record {
       ready = k .laws (c .args .runner .now) .part (l .used) (l .listed) (i .2) (i .1);
       room = record {
-        weighed = c .loop-line .kept .weights ∙ c .pre .room .weighed;
+        weighed = omega (arith, c .loop-line .kept .weights, c .pre .room .weighed);
         free = omega (arith, c .loop-line .kept .work, c .pre .room .free);
         same = c .loop-line .kept .sets ∙ c .pre .room .same;
       };

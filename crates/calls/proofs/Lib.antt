@@ -1,0 +1,2 @@
+pub mod RunLaws
+pub mod Fillings
