@@ -61,37 +61,41 @@ one-place s v w h lv lw hv hw = elim (cases-order v w) [
 ]
 
 -- ---- the figures, cell by cell
-module _ (m : BookMeaning) (listed : ℕ) (s : State) where
-  figure-at : (c : ℕ) → c < length (s .sets) → figure (figures-of m listed s) c ≡ figure-of m listed s c
-  figure-at c h = getD-map-counting (figure-of m listed s) 0 (length (s .sets)) c c no-figure h (omega arith)
+module _ (m : BookMeaning) (listed : ℕ) (sets weights : List ℕ) where
+  figure-at : (c : ℕ) → c < length sets → figure (figures-of m listed sets weights) c ≡ figure-of m listed sets weights c
+  figure-at c h = getD-map-counting (figure-of m listed sets weights) 0 (length sets) c c no-figure h (omega arith)
 
-  figure-past : (c : ℕ) → length (s .sets) ≤ c → figure (figures-of m listed s) c ≡ no-figure
-  figure-past c h = getD-past (figures-of m listed s) c no-figure (omega (arith, length-map-counting (figure-of m listed s) 0 (length (s .sets))))
+  figure-past : (c : ℕ) → length sets ≤ c → figure (figures-of m listed sets weights) c ≡ no-figure
+  figure-past c h = getD-past (figures-of m listed sets weights) c no-figure (omega (arith, length-map-counting (figure-of m listed sets weights) 0 (length sets)))
 
-  open-within : (c : ℕ) → Open (figures-of m listed s) c → (c < length (s .sets)) × (1 < size (left-at (s .sets) c))
-  open-within c o = elim (cases-lt c (length (s .sets))) [
+  open-within : (c : ℕ) → Open (figures-of m listed sets weights) c → (c < length sets) × (1 < size (left-at sets c))
+  open-within c o = elim (cases-lt c (length sets)) [
     | inl l ↦ (l, subst (λ (f : Figure). 1 < f .places) (figure-at c l) (o .1))
     | inr l ↦ absurd (let h : 1 < no-figure .places = subst (λ (f : Figure). 1 < f .places) (figure-past c l) (o .1) in omega arith)
   ]
 
-  within-open : (c : ℕ) → length (s .sets) ≤ 64 → c < length (s .sets) → 1 < size (left-at (s .sets) c) → Open (figures-of m listed s) c
+  within-open : (c : ℕ) → length sets ≤ 64 → c < length sets → 1 < size (left-at sets c) → Open (figures-of m listed sets weights) c
   within-open c few l h = (omega arith, subst (λ (f : Figure). 1 < f .places) (sym (figure-at c l)) h)
 
   module _ {C : Type 0} (k : Machine C) (naming : Naming k) (x : C) where
-    named-open : k .names x (figures-of m listed s) ≢ 255 → Open (figures-of m listed s) (k .names x (figures-of m listed s))
-    named-open ne = elim (naming .named x (figures-of m listed s)) [ inl o ↦ o | inr p ↦ absurd (ne (p .0)) ]
+    named-open : k .names x (figures-of m listed sets weights) ≢ 255 → Open (figures-of m listed sets weights) (k .names x (figures-of m listed sets weights))
+    named-open ne = elim (naming .named x (figures-of m listed sets weights)) [ inl o ↦ o | inr p ↦ absurd (ne (p .0)) ]
 
-    pub none-open : k .names x (figures-of m listed s) ≡ 255 → length (s .sets) ≤ 64 → (c : ℕ) → size (left-at (s .sets) c) ≤ 1
-    none-open e few c = elim (naming .named x (figures-of m listed s)) [
+    pub none-open : k .names x (figures-of m listed sets weights) ≡ 255 → length sets ≤ 64 → (c : ℕ) → size (left-at sets c) ≤ 1
+    none-open e few c = elim (naming .named x (figures-of m listed sets weights)) [
       | inl o ↦ absurd (omega (arith, o .0))
-      | inr p ↦ elim (cases-lt c (length (s .sets))) [
-        | inl l ↦ elim (cases-lt 1 (size (left-at (s .sets) c))) [
+      | inr p ↦ elim (cases-lt c (length sets)) [
+        | inl l ↦ elim (cases-lt 1 (size (left-at sets c))) [
           | inl big ↦ absurd (p .1 c (within-open c few l big))
           | inr small ↦ small
         ]
-        | inr l ↦ omega (arith, ap size (getD-past (s .sets) c 0 l), size-zero)
+        | inr l ↦ omega (arith, ap size (getD-past sets c 0 l), size-zero)
       ]
     ]
+
+    -- a cell that is named, and is not 255, is open
+    pub named-within : (c : ℕ) → c ≡ k .names x (figures-of m listed sets weights) → c ≢ 255 → (c < length sets) × (1 < size (left-at sets c))
+    named-within c e ne = open-within c (subst (λ (z : ℕ). Open (figures-of m listed sets weights) z) (sym e) (named-open (λ q. ne (e ∙ q))))
 
 -- what is known of a choice
 pub record Chosen (sets : List ℕ) (c v : ℕ) : Type 0 where
@@ -101,6 +105,5 @@ pub record Chosen (sets : List ℕ) (c v : ℕ) : Type 0 where
 
 pub chosen : {C : Type 0} (k : Machine C) (naming : Naming k) {m : BookMeaning} {listed : ℕ} {x : C} {s : State} {c v : ℕ} → Choice k m listed x s c v → Chosen (s .sets) c v
 chosen k naming {m} {listed} {x} {s} {c} {v} h =
-    let o = subst (λ (z : ℕ). Open (figures-of m listed s) z) (h .named) (named-open m listed s k naming x (λ e. h .some (sym (h .named) ∙ e))) in
-    let p = open-within m listed s c o in
+    let p = named-within m listed (s .sets) (s .weights) k naming x c (sym (h .named)) (h .some) in
     record { within = p .0; opened = p .1; there = tried-remains (s .sets) c v (p .1) (h .place) }

@@ -63,9 +63,9 @@ below-one : (n s v : ℕ) → ((w : ℕ) → w < n → In s w → w ≡ v) → l
 below-one zero s v h = omega (arith, below-zero s)
 below-one (suc n) s v h = elim (cases-eq (s / 2 ^ n % 2) 1) [
   | inl e ↦
-    let same : n ≡ v = h n (omega arith) e in
-    let none = below-none n s (λ w l k. let q : w ≡ v = h w (omega arith) k in omega arith) in
-    omega (arith, below-yes n s e)
+      let same : n ≡ v = h n (omega arith) e in
+      let none = below-none n s (λ w l k. let q : w ≡ v = h w (omega arith) k in omega arith) in
+      omega (arith, below-yes n s e)
   | inr ne ↦ omega (arith, below-no n s ne, below-one n s v (λ w l. h w (omega arith)))
 ]
 
@@ -74,7 +74,7 @@ some-below zero s v l h = absurd (omega arith)
 some-below (suc n) s v l h = elim (cases-eq (s / 2 ^ n % 2) 1) [
   | inl e ↦ omega (arith, below-yes n s e)
   | inr ne ↦
-    elim (cases-eq v n) [ inl q ↦ absurd (ne (subst (λ (x : ℕ). In s x) q h)) | inr d ↦ omega (arith, below-no n s ne, some-below n s v (omega arith) h) ]
+      elim (cases-eq v n) [ inl q ↦ absurd (ne (subst (λ (x : ℕ). In s x) q h)) | inr d ↦ omega (arith, below-no n s ne, some-below n s v (omega arith) h) ]
 ]
 
 two-below : (n s v w : ℕ) → v < w → w < n → In s v → In s w → 2 ≤ length (below n s)
@@ -82,8 +82,8 @@ two-below zero s v w l m h k = absurd (omega arith)
 two-below (suc n) s v w l m h k = elim (cases-eq w n) [
   | inl q ↦ omega (arith, below-yes n s (subst (λ (x : ℕ). In s x) q k), some-below n s v (omega arith) h)
   | inr d ↦
-    let ih = two-below n s v w l (omega arith) h k in
-    elim (cases-eq (s / 2 ^ n % 2) 1) [ inl e ↦ omega (arith, below-yes n s e) | inr ne ↦ omega (arith, below-no n s ne) ]
+      let ih = two-below n s v w l (omega arith) h k in
+      elim (cases-eq (s / 2 ^ n % 2) 1) [ inl e ↦ omega (arith, below-yes n s e) | inr ne ↦ omega (arith, below-no n s ne) ]
 ]
 
 below-some : (n s : ℕ) → 1 ≤ length (below n s) → (v : ℕ) × (v < n) × In s v
@@ -106,8 +106,8 @@ below-two : (n s : ℕ) → n ≤ 64 → 2 ≤ length (below n s) → Two s
 below-two zero s b h = absurd (omega (arith, below-zero s))
 below-two (suc n) s b h = elim (cases-eq (s / 2 ^ n % 2) 1) [
   | inl e ↦
-    let p = below-some n s (omega (arith, below-yes n s e)) in
-    record { one = p .0; two = n; differ = p .1; small = omega arith; first = p .2; second = e }
+      let p = below-some n s (omega (arith, below-yes n s e)) in
+      record { one = p .0; two = n; differ = p .1; small = omega arith; first = p .2; second = e }
   | inr ne ↦ below-two n s (omega arith) (omega (arith, below-no n s ne))
 ]
 
@@ -120,9 +120,9 @@ pub size-pow : (v : ℕ) → size (2 ^ v) ≤ 1
 unfolding members
 size-pow v =
     below-one 64 (2 ^ v) v (λ w l k. elim (cases-eq w v) [
-        | inl e ↦ e
-        | inr ne ↦ absurd (let z = pow-other v w ne in omega arith)
-      ])
+      | inl e ↦ e
+      | inr ne ↦ absurd (let z = pow-other v w ne in omega arith)
+    ])
 
 pub size-two : (s : ℕ) → 1 < size s → Two s
 unfolding members

@@ -16,8 +16,23 @@ use Rattle.choosers.specs.Choice.{Machine, Naming}
 use Rattle.runs.specs.declared.line.Line.{Line}
 use Rattle.runs.specs.Settle.{State, state, left-at, cell-at, out-of, Settles, Fails}
 use Rattle.runs.specs.Run.{
-  alone, back, Choice, TryFails, TryFails.at-first, TryFails.at-last, Explores, Explores.filled, Explores.stands, Explores.goes-on, Explores.ends,
-  Searches, Searches.fails, Searches.settled, Run, Run.ran, line,
+  alone,
+  back,
+  Choice,
+  TryFails,
+  TryFails.at-first,
+  TryFails.at-last,
+  Explores,
+  Explores.filled,
+  Explores.stands,
+  Explores.goes-on,
+  Explores.ends,
+  Searches,
+  Searches.fails,
+  Searches.settled,
+  Run,
+  Run.ran,
+  line,
 }
 use Rattle.runs.specs.Law.{Suits, Full, Within, Closed, Marks, Settled, Ready, Fills, Right}
 use Rattle.runs.proofs.MoreBits.{some-of}
@@ -61,27 +76,27 @@ module _ (m : BookMeaning) (listed n : ℕ) (suits : Suits m n) {C : Type 0} (k 
   mutual
     explores-none : {x y : C} {s u : State} → length (s .sets) ≡ n → Explores k m listed x s false y u → (f : List ℕ) → Inside f (s .sets) → MeetsAll m (u .used) f → ⊥
     explores-none long (goes-on {s = s} {c = c} {v = v} h g p q) f ins met =
-      let a = chosen k naming h in
-      elim (cases-eq (getD f c 0) v) [
-        | inl e ↦ tries-none long (a .within) g f ins e (λ r j. met r (explores-marks q .more r (settles-marks p .more r j)))
-        | inr ne ↦ explores-none (settles-long (out-long s c v long) p) q f
-          (sound-settles m listed n suits p .kept (out-long s c v long) f (out-inside (s .sets) c v (a .within) (a .there .1) f ins ne) (λ r j. met r (explores-marks q .more r j)))
-          met
-      ]
+        let a = chosen k naming h in
+        elim (cases-eq (getD f c 0) v) [
+          | inl e ↦ tries-none long (a .within) g f ins e (λ r j. met r (explores-marks q .more r (settles-marks p .more r j)))
+          | inr ne ↦ explores-none (settles-long (out-long s c v long) p) q f
+              (sound-settles m listed n suits p .kept (out-long s c v long) f (out-inside (s .sets) c v (a .within) (a .there .1) f ins ne) (λ r j. met r (explores-marks q .more r j)))
+              met
+        ]
     explores-none long (ends {s = s} {c = c} {v = v} h g p) f ins met =
-      let a = chosen k naming h in
-      elim (cases-eq (getD f c 0) v) [
-        | inl e ↦ tries-none long (a .within) g f ins e (λ r j. met r (fails-marks p .more r j))
-        | inr ne ↦ fails-none (out-long s c v long) p f (out-inside (s .sets) c v (a .within) (a .there .1) f ins ne) met
-      ]
+        let a = chosen k naming h in
+        elim (cases-eq (getD f c 0) v) [
+          | inl e ↦ tries-none long (a .within) g f ins e (λ r j. met r (fails-marks p .more r j))
+          | inr ne ↦ fails-none (out-long s c v long) p f (out-inside (s .sets) c v (a .within) (a .there .1) f ins ne) met
+        ]
 
     tries-none : {x y : C} {s t : State} {c v : ℕ} → length (s .sets) ≡ n → c < length (s .sets) → TryFails k m listed x s c v y t
-      → (f : List ℕ) → Inside f (s .sets) → getD f c 0 ≡ v → MeetsAll m (t .used) f → ⊥
+        → (f : List ℕ) → Inside f (s .sets) → getD f c 0 ≡ v → MeetsAll m (t .used) f → ⊥
     tries-none long l (at-first {s = s} {c = c} {v = v} p) f ins e met = fails-none (alone-long s c v long) p f (alone-inside (s .sets) c v l f ins e) met
     tries-none long l (at-last {s = s} {c = c} {v = v} p q) f ins e met =
-      explores-none (settles-long (alone-long s c v long) p) q f
-      (sound-settles m listed n suits p .kept (alone-long s c v long) f (alone-inside (s .sets) c v l f ins e) (λ r j. met r (explores-marks q .more r j)))
-      met
+        explores-none (settles-long (alone-long s c v long) p) q f
+        (sound-settles m listed n suits p .kept (alone-long s c v long) f (alone-inside (s .sets) c v l f ins e) (λ r j. met r (explores-marks q .more r j)))
+        met
 
   -- ---- a filling is found: one place at each cell, and support for it
   pub record Found (s u : State) : Type 0 where
@@ -100,27 +115,27 @@ module _ (m : BookMeaning) (listed n : ℕ) (suits : Suits m n) {C : Type 0} (k 
 
     explores-found : {x y : C} {s u : State} → length (s .sets) ≡ n → Full (s .sets) → Closed m listed (s .sets) → Explores k m listed x s true y u → Found s u
     explores-found long full closed (filled {x = x} {s = s} e) =
-      record { long = long; full = full; inside = λ c v h. h; closed = closed; single = none-open m listed s k naming x e (omega arith) }
+        record { long = long; full = full; inside = λ c v h. h; closed = closed; single = none-open m listed (s .sets) (s .weights) k naming x e (omega arith) }
     explores-found long full closed (stands {s = s} {t = t} {c = c} {v = v} h p q) =
-      let a = chosen k naming h in
-      let b = settle (alone-long s c v long) (alone-full (s .sets) c v (a .within) (a .there .0) full) p in
-      found-from (λ d w r. alone-within (s .sets) c v (a .within) (a .there) d w (b .inside d w r))
-      (explores-found (settles-long (alone-long s c v long) p) (b .full) (b .closed) q)
+        let a = chosen k naming h in
+        let b = settle (alone-long s c v long) (alone-full (s .sets) c v (a .within) (a .there .0) full) p in
+        found-from (λ d w r. alone-within (s .sets) c v (a .within) (a .there) d w (b .inside d w r))
+        (explores-found (settles-long (alone-long s c v long) p) (b .full) (b .closed) q)
     explores-found long full closed (goes-on {s = s} {c = c} {v = v} h g p q) =
-      let a = chosen k naming h in
-      let b = settle (out-long s c v long) (open-full (s .sets) c v (a .within) (a .opened) (a .there .1) full) p in
-      found-from (λ d w r. out-within (s .sets) c v (a .within) (a .there .1) d w (b .inside d w r))
-      (explores-found (settles-long (out-long s c v long) p) (b .full) (b .closed) q)
+        let a = chosen k naming h in
+        let b = settle (out-long s c v long) (open-full (s .sets) c v (a .within) (a .opened) (a .there .1) full) p in
+        found-from (λ d w r. out-within (s .sets) c v (a .within) (a .there .1) d w (b .inside d w r))
+        (explores-found (settles-long (out-long s c v long) p) (b .full) (b .closed) q)
 
     searches-found : {x y : C} {s u : State} → length (s .sets) ≡ n → Full (s .sets) → Searches k m listed x s true y u → Found s u
     searches-found long full (settled p q) =
-      let b = settle long full p in
-      found-from (b .inside) (explores-found (settles-long long p) (b .full) (b .closed) q)
+        let b = settle long full p in
+        found-from (b .inside) (explores-found (settles-long long p) (b .full) (b .closed) q)
 
   searches-none : {x y : C} {s u : State} → length (s .sets) ≡ n → Searches k m listed x s false y u → (f : List ℕ) → Inside f (s .sets) → MeetsAll m (u .used) f → ⊥
   searches-none long (fails p) f ins met = fails-none long p f ins met
   searches-none long (settled p q) f ins met =
-    explores-none (settles-long long p) q f (sound-settles m listed n suits p .kept long f ins (λ r j. met r (explores-marks q .more r j))) met
+      explores-none (settles-long long p) q f (sound-settles m listed n suits p .kept long f ins (λ r j. met r (explores-marks q .more r j))) met
 
   searches-marks : {x y : C} {s u : State} {found : Bool} → Searches k m listed x s found y u → Marks listed (s .used) (u .used)
   searches-marks (fails p) = fails-marks p
@@ -149,52 +164,56 @@ closed-meets m listed sets suits law known closed single f ins r on =
     let p : Supported (m .rule r) 0 (getD f (cell-at m r 0) 0) sets = closed r 0 (getD f (cell-at m r 0) 0) on some (ins .each (cell-at m r 0) (suits .cells r 0 some)) in
     let long : length (p .row) ≡ length (row-of (m .rule r) f) = p .wide ∙ sym (length-map (m .rule r .cells) (λ c. getD f c 0)) in
     let same : p .row ≡ row-of (m .rule r) f = ext-getD 64 (p .row) (row-of (m .rule r) f) long (λ j l.
-        let lj : j < length (m .rule r .cells) = rw (p .wide) at l in
-        let a = p .remain j lj in
-        let b = ins .each (cell-at m r j) (suits .cells r j lj) in
-        one-place (left-at sets (cell-at m r j)) (getD (p .row) j 64) (getD f (cell-at m r j) 0) (single (cell-at m r j)) (a .0) (b .0) (a .1) (b .1)
-        ∙ sym (row-at (m .rule r) f j 64 lj)) in
+    let lj : j < length (m .rule r .cells) = rw (p .wide) at l in
+    let a = p .remain j lj in
+    let b = ins .each (cell-at m r j) (suits .cells r j lj) in
+    one-place (left-at sets (cell-at m r j)) (getD (p .row) j 64) (getD f (cell-at m r j) 0) (single (cell-at m r j)) (a .0) (b .0) (a .1) (b .1)
+    ∙ sym (row-at (m .rule r) f j 64 lj)) in
     subst (λ (x : List ℕ). m .rule r .permits x ≡ true) same (p .permitted)
 
 -- ---- a whole run
 module _ {C : Type 0} (k : Machine C) (naming : Naming k) (m : BookMeaning) (law : Lawful m) (start : List ℕ) (listed : ℕ) (ready : Ready m start listed) where
   fills-of : {s u : State} → s .sets ≡ start → Found m listed (length start) (ready .suits) k naming s u → Fills m start listed (u .sets)
   fills-of {s} {u} e a =
-    let (f, ins) = filling-of (u .sets) (a .full) in
-    record {
-      filling = f;
-      inside = record {
-        long = ins .long ∙ a .long;
-        each = λ c l. subst (λ (x : List ℕ). Remains x c (getD f c 0)) e (a .inside c (getD f c 0) (ins .each c (omega (arith, a .long))));
-      };
-      meets = closed-meets m listed (u .sets) (rw (a .long) (ready .suits)) law (ready .known) (a .closed) (a .single) f ins;
-      left = ins;
-      only = λ c v r. elim (cases-lt c (length (u .sets))) [
-        | inl l ↦ let b = ins .each c l in one-place (left-at (u .sets) c) v (getD f c 0) (a .single c) (r .0) (b .0) (r .1) (b .1)
-        | inr l ↦ absurd (has-zero v (subst (λ (x : ℕ). In x v) (Rattle.std.proofs.shelf.Lists.getD-past (u .sets) c 0 l) (r .1)))
-      ];
-    }
+      let (f, ins) = filling-of (u .sets) (a .full) in
+      record {
+        filling = f;
+        inside = record {
+          long = ins .long ∙ a .long;
+          each = λ c l. subst (λ (x : List ℕ). Remains x c (getD f c 0)) e (a .inside c (getD f c 0) (ins .each c (omega (arith, a .long))));
+        };
+        meets = closed-meets m listed (u .sets) (rw (a .long) (ready .suits)) law (ready .known) (a .closed) (a .single) f ins;
+        left = ins;
+        only = λ c v r. elim (cases-lt c (length (u .sets))) [
+          | inl l ↦ let b = ins .each c l in one-place (left-at (u .sets) c) v (getD f c 0) (a .single c) (r .0) (b .0) (r .1) (b .1)
+          | inr l ↦ absurd (has-zero v (subst (λ (x : ℕ). In x v) (Rattle.std.proofs.shelf.Lists.getD-past (u .sets) c 0 l) (r .1)))
+        ];
+      }
 
   fits-of : {sets : List ℕ} → Fills m start listed sets → Meetable m start listed
   fits-of a = record { filling = a .filling; inside = a .inside; meets = a .meets }
 
   pub run-right : {x y : C} {ws ws′ sets : List ℕ} {l : Line} → Run k m start listed x ws l y ws′ sets → Right (Meetable m start) l
   run-right (ran {found = true} p) =
-    let a = fills-of refl (searches-found m listed (length start) (ready .suits) k naming (ready .few) law refl (ready .full) p) in
-    record { fits = λ _. fits-of a; only = λ _. refl; unused = λ _. refl; among = λ e. absurd (omega arith); clash = λ e. absurd (omega arith); known = inl refl }
+      let a = fills-of refl (searches-found m listed (length start) (ready .suits) k naming (ready .few) law refl (ready .full) p) in
+      record { fits = λ _. fits-of a; only = λ _. refl; unused = λ _. refl; among = λ e. absurd (omega arith); clash = λ e. absurd (omega arith); known = inl refl }
   run-right (ran {t = t} {found = false} p) =
-    let marks = searches-marks m listed (length start) (ready .suits) k naming p in
-    let among : Subset (t .used) listed = λ r h. elim (marks .among r h) [ inl z ↦ absurd (has-zero r z) | inr on ↦ on ] in
-    let none = searches-none m listed (length start) (ready .suits) k naming refl p in
-    record {
-      fits = λ e. absurd (omega arith);
-      only = λ q. absurd (none (q .filling) (q .inside) (λ r h. q .meets r (among r h)));
-      unused = λ e. absurd (omega arith);
-      among = λ _. among;
-      clash = λ _ q. none (q .filling) (q .inside) (q .meets);
-      known = inr refl;
-    }
+      let marks = searches-marks m listed (length start) (ready .suits) k naming p in
+      let among : Subset (t .used) listed = λ r h. elim (marks .among r h) [ inl z ↦ absurd (has-zero r z) | inr on ↦ on ] in
+      let none = searches-none m listed (length start) (ready .suits) k naming refl p in
+      record {
+        fits = λ e. absurd (omega arith);
+        only = λ q. absurd (none (q .filling) (q .inside) (λ r h. q .meets r (among r h)));
+        unused = λ e. absurd (omega arith);
+        among = λ _. among;
+        clash = λ _ q. none (q .filling) (q .inside) (q .meets);
+        known = inr refl;
+      }
 
   pub run-fills : {x y : C} {ws ws′ sets : List ℕ} {l : Line} → Run k m start listed x ws l y ws′ sets → l .verdict ≡ 0 → Fills m start listed sets
   run-fills (ran {found = true} p) e = fills-of refl (searches-found m listed (length start) (ready .suits) k naming (ready .few) law refl (ready .full) p)
   run-fills (ran {found = false} p) e = absurd (omega arith)
+
+pub run-lists : {C : Type 0} {k : Machine C} {m : BookMeaning} {start : List ℕ} {listed : ℕ} {x y : C} {ws ws′ sets : List ℕ} {l : Line}
+    → Run k m start listed x ws l y ws′ sets → l .listed ≡ listed
+run-lists (ran p) = refl

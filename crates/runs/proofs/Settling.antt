@@ -12,9 +12,41 @@ use Rattle.bits.proofs.Bits.{mark-same, mark-more}
 use Rattle.network.specs.Book.{Rule, BookMeaning, Lawful, Supported, Remains}
 use Rattle.network.specs.Fillings.{row-of, Meets, MeetsAll, Inside, Meetable}
 use Rattle.runs.specs.Settle.{
-  Turns, Turns.none, Turns.more, Stops, State, state, left-at, Empty, cell-at, out-of, marked, total, Lost, Revises, Revises.absent, Revises.kept, Revises.removed,
-  Empties, Empties.emptied, Position, PositionFails, Takes, TakesFails, Turn, Turn.unlisted, Turn.taken, TurnFails, Sweep, SweepFails,
-  Settles, Settles.rest, Settles.again, Fails, Fails.at-once, Fails.later,
+  Turns,
+  Turns.none,
+  Turns.more,
+  Stops,
+  State,
+  state,
+  left-at,
+  Empty,
+  cell-at,
+  out-of,
+  marked,
+  total,
+  Lost,
+  Revises,
+  Revises.absent,
+  Revises.kept,
+  Revises.removed,
+  Empties,
+  Empties.emptied,
+  Position,
+  PositionFails,
+  Takes,
+  TakesFails,
+  Turn,
+  Turn.unlisted,
+  Turn.taken,
+  TurnFails,
+  Sweep,
+  SweepFails,
+  Settles,
+  Settles.rest,
+  Settles.again,
+  Fails,
+  Fails.at-once,
+  Fails.later,
 }
 use Rattle.runs.specs.Law.{Suits, Full, Within, Closed, Marks, Settled, Clash}
 use Rattle.runs.proofs.MoreBits.{mark-only}
@@ -95,29 +127,29 @@ module _ (m : BookMeaning) (listed n : ℕ) (suits : Suits m n) where
 
   -- a removal by a listed rule, whatever becomes of the weights
   sound-lost : {r i v : ℕ} (s : State) (weights : List ℕ) → In listed r → i < length (m .rule r .cells) → Lost m r i v (s .sets)
-    → Sound s (state (out-of (s .sets) (cell-at m r i) v) (marked (s .used) r) weights)
+      → Sound s (state (out-of (s .sets) (cell-at m r i) v) (marked (s .used) r) weights)
   sound-lost {r} {i} {v} s weights on hi lost =
-    let c : ℕ = cell-at m r i in
-    let e : length (out-of (s .sets) c v) ≡ length (s .sets) = length-set (s .sets) c (left-at (s .sets) c - 2 ^ v) in
-    let within : length (s .sets) ≡ n → c < length (s .sets) = λ h. rw h (suits .cells r i hi) in
-    let there : In (left-at (s .sets) c) v = lost .there .1 in
-    record {
-      long = λ h. e ∙ h;
-      inside = λ h. out-within (s .sets) c v (within h) there;
-      marks = record {
-        more = λ q h. mark-more (s .used) r q h;
-        among = λ q h. elim (mark-only (s .used) r q h) [ inl k ↦ inl k | inr k ↦ inr (subst (λ (x : ℕ). In listed x) (sym k) on) ];
-      };
-      largest = λ h other w cl d x o. out-keeps (s .sets) c v (within h) there d x (w d x o)
-        (λ q q′. lost .unsupported (support-more (m .rule r) other (s .sets) i v w (cl r i v on hi (subst₂ (λ (a b : ℕ). Remains other a b) q q′ o))));
-      kept = λ h f ins met. record {
-        long = ins .long ∙ sym e;
-        each = λ d l. out-keeps (s .sets) c v (within h) there d (getD f d 0) (ins .each d (omega arith))
-          (λ q q′. lost .unsupported (subst (λ (x : ℕ). Supported (m .rule r) i x (s .sets)) (ap (λ (z : ℕ). getD f z 0) (sym q) ∙ q′)
-            (support-of (m .rule r) (s .sets) f i (λ k lk. rw h (suits .cells r k lk)) hi ins (met r (mark-same (s .used) r)))));
-      };
-      falls = λ h. inr (out-total (s .sets) c v (within h) there);
-    }
+      let c : ℕ = cell-at m r i in
+      let e : length (out-of (s .sets) c v) ≡ length (s .sets) = length-set (s .sets) c (left-at (s .sets) c - 2 ^ v) in
+      let within : length (s .sets) ≡ n → c < length (s .sets) = λ h. rw h (suits .cells r i hi) in
+      let there : In (left-at (s .sets) c) v = lost .there .1 in
+      record {
+        long = λ h. e ∙ h;
+        inside = λ h. out-within (s .sets) c v (within h) there;
+        marks = record {
+          more = λ q h. mark-more (s .used) r q h;
+          among = λ q h. elim (mark-only (s .used) r q h) [ inl k ↦ inl k | inr k ↦ inr (subst (λ (x : ℕ). In listed x) (sym k) on) ];
+        };
+        largest = λ h other w cl d x o. out-keeps (s .sets) c v (within h) there d x (w d x o)
+            (λ q q′. lost .unsupported (support-more (m .rule r) other (s .sets) i v w (cl r i v on hi (subst₂ (λ (a b : ℕ). Remains other a b) q q′ o))));
+        kept = λ h f ins met. record {
+          long = ins .long ∙ sym e;
+          each = λ d l. out-keeps (s .sets) c v (within h) there d (getD f d 0) (ins .each d (omega arith))
+              (λ q q′. lost .unsupported (subst (λ (x : ℕ). Supported (m .rule r) i x (s .sets)) (ap (λ (z : ℕ). getD f z 0) (sym q) ∙ q′)
+              (support-of (m .rule r) (s .sets) f i (λ k lk. rw h (suits .cells r k lk)) hi ins (met r (mark-same (s .used) r)))));
+        };
+        falls = λ h. inr (out-total (s .sets) c v (within h) there);
+      }
 
   sound-place : {r i v : ℕ} {s t : State} → In listed r → i < length (m .rule r .cells) → Revises m r i v s t → Sound s t
   sound-place on hi (absent {s = s} k) = sound-refl s
@@ -139,21 +171,21 @@ module _ (m : BookMeaning) (listed n : ℕ) (suits : Suits m n) where
   falls-le (inr l) = omega arith
 
   still-turns : {R : ℕ → State → State → Type 0} {k : ℕ} {s t : State} → length (s .sets) ≡ n → ((j : ℕ) (a b : State) → j < k → R j a b → Sound a b)
-    → Turns R k s t → total (t .sets) ≡ total (s .sets) → (j : ℕ) → j < k → R j s s
+      → Turns R k s t → total (t .sets) ≡ total (s .sets) → (j : ℕ) → j < k → R j s s
   still-turns long f none e j h = absurd (omega arith)
   still-turns {R} long f (more {n = k} {s = s} {t = t} {u = u} a b) e j h =
-    let sa : Sound s t = sound-turns (λ j x y h. f j x y (omega arith)) a in
-    let sb : Sound t u = f k t u (omega arith) b in
-    let la = falls-le (sa .falls long) in
-    let lb = falls-le (sb .falls (sa .long long)) in
-    let ea : total (t .sets) ≡ total (s .sets) = omega arith in
-    let eb : total (u .sets) ≡ total (t .sets) = omega arith in
-    let pa : s ≡ t = no-fall (sa .falls long) ea in
-    let pb : t ≡ u = no-fall (sb .falls (sa .long long)) eb in
-    elim (cases-eq j k) [
-      | inl q ↦ rw q (subst₂ (λ (x y : State). R k x y) (sym pa) (sym pb ∙ sym pa) b)
-      | inr ne ↦ still-turns long (λ j x y h. f j x y (omega arith)) a ea j (omega arith)
-    ]
+      let sa : Sound s t = sound-turns (λ j x y h. f j x y (omega arith)) a in
+      let sb : Sound t u = f k t u (omega arith) b in
+      let la = falls-le (sa .falls long) in
+      let lb = falls-le (sb .falls (sa .long long)) in
+      let ea : total (t .sets) ≡ total (s .sets) = omega arith in
+      let eb : total (u .sets) ≡ total (t .sets) = omega arith in
+      let pa : s ≡ t = no-fall (sa .falls long) ea in
+      let pb : t ≡ u = no-fall (sb .falls (sa .long long)) eb in
+      elim (cases-eq j k) [
+        | inl q ↦ rw q (subst₂ (λ (x y : State). R k x y) (sym pa) (sym pb ∙ sym pa) b)
+        | inr ne ↦ still-turns long (λ j x y h. f j x y (omega arith)) a ea j (omega arith)
+      ]
 
   -- ---- the levels: a position, a rule, a sweep
   sound-position : {r i : ℕ} {s t : State} → In listed r → i < length (m .rule r .cells) → Position m r i s t → Sound s t
@@ -175,7 +207,7 @@ module _ (m : BookMeaning) (listed n : ℕ) (suits : Suits m n) where
   taken-of on (taken on′ p) = p
 
   supported-of : {r i v : ℕ} {s t : State} → cell-at m r i < length (s .sets) → total (t .sets) ≡ total (s .sets) → Remains (s .sets) (cell-at m r i) v
-    → Revises m r i v s t → Supported (m .rule r) i v (s .sets)
+      → Revises m r i v s t → Supported (m .rule r) i v (s .sets)
   supported-of l e h (absent k) = absurd (k h)
   supported-of l e h (kept p) = p
   supported-of {r} {i} {v} l e h (removed {s = s} lost k) = absurd (let q = out-total (s .sets) (cell-at m r i) v l (lost .there .1) in omega arith)
@@ -185,10 +217,10 @@ module _ (m : BookMeaning) (listed n : ℕ) (suits : Suits m n) where
 
   still-closed : {s t : State} → Lawful m → length (s .sets) ≡ n → Sweep m listed s t → total (t .sets) ≡ total (s .sets) → Closed m listed (s .sets)
   still-closed {s} law long p e r i v on hi h =
-    let at-rule = still-turns long (λ r a b h p. sound-turn p) p e r (listed-known law r i hi) in
-    let at-position = still-turns long (λ i a b h p. sound-position on h p) (taken-of on at-rule) refl i hi in
-    let at-place = still-turns long (λ v a b h p. sound-place on hi p) at-position refl v (h .0) in
-    supported-of (rw long (suits .cells r i hi)) refl h at-place
+      let at-rule = still-turns long (λ r a b h p. sound-turn p) p e r (listed-known law r i hi) in
+      let at-position = still-turns long (λ i a b h p. sound-position on h p) (taken-of on at-rule) refl i hi in
+      let at-place = still-turns long (λ v a b h p. sound-place on hi p) at-position refl v (h .0) in
+      supported-of (rw long (suits .cells r i hi)) refl h at-place
 
   -- ---- settling
   pub sound-settles : {s t : State} → Settles m listed s t → Sound s t
@@ -208,7 +240,7 @@ module _ (m : BookMeaning) (listed n : ℕ) (suits : Suits m n) where
   turn-full : {r : ℕ} {s t : State} → Turn m listed r s t → Full (s .sets) → Full (t .sets)
   turn-full (unlisted off) full = full
   turn-full (taken on p) full =
-    turns-keep (λ (x : State). Full (x .sets)) (λ i a b h q f. turns-keep (λ (x : State). Full (x .sets)) (λ v x y h p k. revises-full p k) q f) p full
+      turns-keep (λ (x : State). Full (x .sets)) (λ i a b h q f. turns-keep (λ (x : State). Full (x .sets)) (λ v x y h p k. revises-full p k) q f) p full
 
   sweep-full : {s t : State} → Sweep m listed s t → Full (s .sets) → Full (t .sets)
   sweep-full p full = turns-keep (λ (x : State). Full (x .sets)) (λ r a b h q f. turn-full q f) p full
@@ -219,16 +251,16 @@ module _ (m : BookMeaning) (listed n : ℕ) (suits : Suits m n) where
 
   pub settles-law : {s t : State} → Lawful m → length (s .sets) ≡ n → Full (s .sets) → Settles m listed s t → Settled m listed s t
   settles-law law long full p =
-    let a = sound-settles p in
-    record {
-      long = a .long long ∙ sym long;
-      full = settles-full p full;
-      inside = a .inside long;
-      closed = settles-closed law long p;
-      largest = a .largest long;
-      kept = a .kept long;
-      marks = a .marks;
-    }
+      let a = sound-settles p in
+      record {
+        long = a .long long ∙ sym long;
+        full = settles-full p full;
+        inside = a .inside long;
+        closed = settles-closed law long p;
+        largest = a .largest long;
+        kept = a .kept long;
+        marks = a .marks;
+      }
 
   -- ---- failing: a cell is left empty, so that no filling is inside
   pub record Spent (s t : State) : Type 0 where
@@ -245,20 +277,20 @@ module _ (m : BookMeaning) (listed n : ℕ) (suits : Suits m n) where
 
   empties-spent : {r i v : ℕ} {s t : State} → In listed r → i < length (m .rule r .cells) → Empties m r i v s t → Spent s t
   empties-spent {r} {i} {v} on hi (emptied {s = s} lost e) =
-    let c : ℕ = cell-at m r i in
-    let k : length (out-of (s .sets) c v) ≡ length (s .sets) = length-set (s .sets) c (left-at (s .sets) c - 2 ^ v) in
-    let within : length (s .sets) ≡ n → c < length (s .sets) = λ h. rw h (suits .cells r i hi) in
-    record {
-      sound = sound-lost s _ on hi lost;
-      less = λ h. out-total (s .sets) c v (within h) (lost .there .1);
-      none = λ h f ins. e (getD f c 0) (ins .each c (omega (arith, within h)));
-    }
+      let c : ℕ = cell-at m r i in
+      let k : length (out-of (s .sets) c v) ≡ length (s .sets) = length-set (s .sets) c (left-at (s .sets) c - 2 ^ v) in
+      let within : length (s .sets) ≡ n → c < length (s .sets) = λ h. rw h (suits .cells r i hi) in
+      record {
+        sound = sound-lost s _ on hi lost;
+        less = λ h. out-total (s .sets) c v (within h) (lost .there .1);
+        none = λ h f ins. e (getD f c 0) (ins .each c (omega (arith, within h)));
+      }
 
   spent-stops : {R F : ℕ → State → State → Type 0} {k j : ℕ} {s t : State} → ((j : ℕ) (a b : State) → j < k → R j a b → Sound a b)
-    → ((j : ℕ) (a b : State) → j < k → F j a b → Spent a b) → Stops R F k j s t → Spent s t
+      → ((j : ℕ) (a b : State) → j < k → F j a b → Spent a b) → Stops R F k j s t → Spent s t
   spent-stops {k = k} {j = j} {t = t} f g p =
-    let l = p .within in
-    spent-after (sound-turns (λ i x y h. f i x y (omega arith)) (p .first)) (g j (p .before) t (p .within) (p .last))
+      let l = p .within in
+      spent-after (sound-turns (λ i x y h. f i x y (omega arith)) (p .first)) (g j (p .before) t (p .within) (p .last))
 
   position-spent : {r i : ℕ} {s t : State} → In listed r → i < length (m .rule r .cells) → PositionFails m r i s t → Spent s t
   position-spent on hi p = spent-stops (λ v a b h q. sound-place on hi q) (λ v a b h q. empties-spent on hi q) (p .1)
@@ -272,9 +304,16 @@ module _ (m : BookMeaning) (listed n : ℕ) (suits : Suits m n) where
 
   pub fails-law : {r : ℕ} {s t : State} → length (s .sets) ≡ n → Fails m listed r s t → Clash m listed s t
   fails-law long p =
-    let a = fails-spent p in
-    record { clash = λ q. a .none long (q .filling) (a .sound .kept long (q .filling) (q .inside) (q .meets)); marks = a .sound .marks }
+      let a = fails-spent p in
+      record { clash = λ q. a .none long (q .filling) (a .sound .kept long (q .filling) (q .inside) (q .meets)); marks = a .sound .marks }
 
   -- ---- what the code wants of it
   pub settles-le : {s t : State} → length (s .sets) ≡ n → Settles m listed s t → total (t .sets) ≤ total (s .sets)
   settles-le long p = falls-le (sound-settles p .falls long)
+
+  pub fails-le : {r : ℕ} {s t : State} → length (s .sets) ≡ n → Fails m listed r s t → total (t .sets) ≤ total (s .sets)
+  fails-le long p = omega (arith, fails-spent p .less long)
+
+pub fails-known : {m : BookMeaning} {listed r : ℕ} {s t : State} → Fails m listed r s t → r < m .count
+fails-known (at-once p) = p .within
+fails-known (later p d q) = fails-known q

@@ -44,11 +44,11 @@ module _ (sets : List ℕ) (c v : ℕ) (l : c < length sets) (h : In (left-at se
   pub out-within : Within (out-of sets c v) sets
   out-within d w k = elim (cases-eq d c) [
     | inl e ↦
-      let p = at-written sets c (left-at sets c - 2 ^ v) l d w e k in
-      elim (cases-eq w v) [
-        | inl q ↦ absurd (out-same (left-at sets c) v h (subst (λ (y : ℕ). In (left-at sets c - 2 ^ v) y) q (p .1)))
-        | inr ne ↦ (p .0, subst (λ (y : ℕ). In (left-at sets y) w) (sym e) (sym (out-other (left-at sets c) v w h ne) ∙ p .1))
-      ]
+        let p = at-written sets c (left-at sets c - 2 ^ v) l d w e k in
+        elim (cases-eq w v) [
+          | inl q ↦ absurd (out-same (left-at sets c) v h (subst (λ (y : ℕ). In (left-at sets c - 2 ^ v) y) q (p .1)))
+          | inr ne ↦ (p .0, subst (λ (y : ℕ). In (left-at sets y) w) (sym e) (sym (out-other (left-at sets c) v w h ne) ∙ p .1))
+        ]
     | inr ne ↦ at-other sets c (left-at sets c - 2 ^ v) d w ne k
   ]
 
@@ -62,37 +62,37 @@ module _ (sets : List ℕ) (c v : ℕ) (l : c < length sets) (h : In (left-at se
   -- a filling with another place there stays inside
   pub out-inside : (f : List ℕ) → Inside f sets → getD f c 0 ≢ v → Inside f (out-of sets c v)
   out-inside f ins ne =
-    let e : length (out-of sets c v) ≡ length sets = length-set sets c (left-at sets c - 2 ^ v) in
-    record {
-      long = ins .long ∙ sym e;
-      each = λ d k. out-keeps d (getD f d 0) (ins .each d (omega arith)) (λ q q′. ne (ap (λ (z : ℕ). getD f z 0) (sym q) ∙ q′));
-    }
+      let e : length (out-of sets c v) ≡ length sets = length-set sets c (left-at sets c - 2 ^ v) in
+      record {
+        long = ins .long ∙ sym e;
+        each = λ d k. out-keeps d (getD f d 0) (ins .each d (omega arith)) (λ q q′. ne (ap (λ (z : ℕ). getD f z 0) (sym q) ∙ q′));
+      }
 
 -- ---- one place alone
 module _ (sets : List ℕ) (c v : ℕ) (l : c < length sets) where
   pub alone-within : Remains sets c v → Within (set sets c (2 ^ v)) sets
   alone-within h d w k = elim (cases-eq d c) [
     | inl e ↦
-      let p = at-written sets c (2 ^ v) l d w e k in
-      elim (cases-eq w v) [
-        | inl q ↦ subst₂ (λ (a b : ℕ). Remains sets a b) (sym e) (sym q) h
-        | inr ne ↦ absurd (let z = pow-other v w ne in omega (arith, p .1))
-      ]
+        let p = at-written sets c (2 ^ v) l d w e k in
+        elim (cases-eq w v) [
+          | inl q ↦ subst₂ (λ (a b : ℕ). Remains sets a b) (sym e) (sym q) h
+          | inr ne ↦ absurd (let z = pow-other v w ne in omega (arith, p .1))
+        ]
     | inr ne ↦ at-other sets c (2 ^ v) d w ne k
   ]
 
   pub alone-inside : (f : List ℕ) → Inside f sets → getD f c 0 ≡ v → Inside f (set sets c (2 ^ v))
   alone-inside f ins e =
-    let n : length (set sets c (2 ^ v)) ≡ length sets = length-set sets c (2 ^ v) in
-    record {
-      long = ins .long ∙ sym n;
-      each = λ d k.
-        let r = ins .each d (omega arith) in
-        elim (cases-eq d c) [
-          | inl q ↦ to-written sets c (2 ^ v) l d (getD f d 0) q (r .0) (subst (λ (y : ℕ). In (2 ^ v) y) (sym (ap (λ (z : ℕ). getD f z 0) q ∙ e)) (pow-same v))
-          | inr ne ↦ to-other sets c (2 ^ v) d (getD f d 0) ne r
-        ];
-    }
+      let n : length (set sets c (2 ^ v)) ≡ length sets = length-set sets c (2 ^ v) in
+      record {
+        long = ins .long ∙ sym n;
+        each = λ d k.
+            let r = ins .each d (omega arith) in
+            elim (cases-eq d c) [
+              | inl q ↦ to-written sets c (2 ^ v) l d (getD f d 0) q (r .0) (subst (λ (y : ℕ). In (2 ^ v) y) (sym (ap (λ (z : ℕ). getD f z 0) q ∙ e)) (pow-same v))
+              | inr ne ↦ to-other sets c (2 ^ v) d (getD f d 0) ne r
+            ];
+      }
 
   pub alone-full : v < 64 → Full sets → Full (set sets c (2 ^ v))
   alone-full b full d k = elim (cases-eq d c) [

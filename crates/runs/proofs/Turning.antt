@@ -25,17 +25,17 @@ module _ {S : Type 0} {R F : ℕ → S → S → Type 0} (x : Exact R F) where
   pub turns-same : {k : ℕ} {s t u : S} → Turns R k s t → Turns R k s u → t ≡ u
   turns-same none none = refl
   turns-same (more {n = k} {t = t} {u = u} a b) (more {t = t′} {u = u′} a′ b′) =
-    let e : t ≡ t′ = turns-same a a′ in
-    x .same k t′ u u′ (subst (λ z. R k z u) e b) b′
+      let e : t ≡ t′ = turns-same a a′ in
+      x .same k t′ u u′ (subst (λ z. R k z u) e b) b′
 
   -- a turn that was taken did not fail
   turn-apart : (j k : ℕ) {s t b u : S} → j < k → Turns R k s t → Turns R j s b → F j b u → ⊥
   turn-apart j zero l a p q = absurd (omega arith)
   turn-apart j (suc k) {s = s} {b = b} {u = u} l (more {t = t} {u = w} a z) p q = elim (cases-order j k) [
     | inl e ↦
-      let pk : Turns R k s b = subst (λ (i : ℕ). Turns R i s b) e p in
-      let same : t ≡ b = turns-same a pk in
-      x .apart k b w u (subst (λ y. R k y w) same z) (subst (λ (i : ℕ). F i b u) e q)
+        let pk : Turns R k s b = subst (λ (i : ℕ). Turns R i s b) e p in
+        let same : t ≡ b = turns-same a pk in
+        x .apart k b w u (subst (λ y. R k y w) same z) (subst (λ (i : ℕ). F i b u) e q)
     | inr o ↦ elim o [
       | inl lt ↦ turn-apart j k lt a p q
       | inr gt ↦ absurd (omega arith)
@@ -48,10 +48,10 @@ module _ {S : Type 0} {R F : ℕ → S → S → Type 0} (x : Exact R F) where
   pub stops-same : {n i j : ℕ} {s t u : S} → Stops R F n i s t → Stops R F n j s u → (i ≡ j) × (t ≡ u)
   stops-same {n} {i} {j} {s} {t} {u} a b = elim (cases-order i j) [
     | inl e ↦
-      let first : Turns R j s (a .before) = subst (λ (k : ℕ). Turns R k s (a .before)) e (a .first) in
-      let same : a .before ≡ b .before = turns-same first (b .first) in
-      let last : F j (a .before) t = subst (λ (k : ℕ). F k (a .before) t) e (a .last) in
-      (e, x .last j (b .before) t u (subst (λ y. F j y t) same last) (b .last))
+        let first : Turns R j s (a .before) = subst (λ (k : ℕ). Turns R k s (a .before)) e (a .first) in
+        let same : a .before ≡ b .before = turns-same first (b .first) in
+        let last : F j (a .before) t = subst (λ (k : ℕ). F k (a .before) t) e (a .last) in
+        (e, x .last j (b .before) t u (subst (λ y. F j y t) same last) (b .last))
     | inr o ↦ elim o [
       | inl lt ↦ absurd (turn-apart i j lt (b .first) (a .first) (a .last))
       | inr gt ↦ absurd (turn-apart j i gt (a .first) (b .first) (b .last))

@@ -6,8 +6,32 @@ use Prim.Native.Nat.{ℕ, zero, suc, _<_}
 use Rattle.bits.specs.Sets.{In}
 use Rattle.network.specs.Book.{BookMeaning}
 use Rattle.runs.specs.Settle.{
-  Turns, Stops, State, state, Revises, Revises.absent, Revises.kept, Revises.removed, Empties, Empties.emptied, Position, PositionFails,
-  Takes, TakesFails, Turn, Turn.unlisted, Turn.taken, TurnFails, Sweep, SweepFails, Settles, Settles.rest, Settles.again, Fails, Fails.at-once, Fails.later,
+  Turns,
+  Stops,
+  State,
+  state,
+  Revises,
+  Revises.absent,
+  Revises.kept,
+  Revises.removed,
+  Empties,
+  Empties.emptied,
+  Position,
+  PositionFails,
+  Takes,
+  TakesFails,
+  Turn,
+  Turn.unlisted,
+  Turn.taken,
+  TurnFails,
+  Sweep,
+  SweepFails,
+  Settles,
+  Settles.rest,
+  Settles.again,
+  Fails,
+  Fails.at-once,
+  Fails.later,
 }
 use Rattle.runs.specs.Law.{OnlySettles, OnlyFails}
 use Rattle.runs.proofs.Turning.{Exact, turns-same, turns-stops, stops-same}

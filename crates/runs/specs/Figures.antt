@@ -9,7 +9,7 @@ use Rattle.std.specs.shelf.Lists.{sum}
 use Rattle.bits.specs.Sets.{in?, size}
 use Rattle.network.specs.Book.{BookMeaning}
 use Rattle.choosers.specs.declared.chooser.Figure.{Figure}
-use Rattle.runs.specs.Settle.{State, left-at}
+use Rattle.runs.specs.Settle.{left-at}
 
 -- two or more places remain
 abbrev pub open? : List ℕ → ℕ → Bool
@@ -25,16 +25,16 @@ abbrev pub joins? : List ℕ → ℕ → List ℕ → Bool
 joins? sets c cells = some? (λ d. eqb d c) cells && some? (λ d. not (eqb d c) && open? sets d) cells
 
 -- what the rule r adds to the weighted degree of the cell c: its weight, if it is listed and has c and another open cell
-abbrev pub share : BookMeaning → ℕ → State → ℕ → ℕ → ℕ
-share m listed s c r = cond (in? listed r && joins? (s .sets) c (m .rule r .cells)) (getD (s .weights) r 0) 0
+abbrev pub share : BookMeaning → ℕ → List ℕ → List ℕ → ℕ → ℕ → ℕ
+share m listed sets weights c r = cond (in? listed r && joins? sets c (m .rule r .cells)) (getD weights r 0) 0
 
 -- the weighted degree of the cell c
-abbrev pub degree-of : BookMeaning → ℕ → State → ℕ → ℕ
-degree-of m listed s c = sum (map (share m listed s c) (counting 0 (m .count)))
+abbrev pub degree-of : BookMeaning → ℕ → List ℕ → List ℕ → ℕ → ℕ
+degree-of m listed sets weights c = sum (map (share m listed sets weights c) (counting 0 (m .count)))
 
-abbrev pub figure-of : BookMeaning → ℕ → State → ℕ → Figure
-figure-of m listed s c = record { places = size (left-at (s .sets) c); degree = degree-of m listed s c }
+abbrev pub figure-of : BookMeaning → ℕ → List ℕ → List ℕ → ℕ → Figure
+figure-of m listed sets weights c = record { places = size (left-at sets c); degree = degree-of m listed sets weights c }
 
 -- a figure for each cell, in order
-abbrev pub figures-of : BookMeaning → ℕ → State → List Figure
-figures-of m listed s = map (figure-of m listed s) (counting 0 (length (s .sets)))
+abbrev pub figures-of : BookMeaning → ℕ → List ℕ → List ℕ → List Figure
+figures-of m listed sets weights = map (figure-of m listed sets weights) (counting 0 (length sets))

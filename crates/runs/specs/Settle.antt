@@ -63,12 +63,12 @@ pub data Revises (m : BookMeaning) (r i : ℕ) : ℕ → State → State → Typ
   absent : {v : ℕ} {s : State} → (Remains (s .sets) (cell-at m r i) v → ⊥) → Revises m r i v s s
   kept : {v : ℕ} {s : State} → Supported (m .rule r) i v (s .sets) → Revises m r i v s s
   removed : {v : ℕ} {s : State} → Lost m r i v (s .sets) → (Empty (out-of (s .sets) (cell-at m r i) v) (cell-at m r i) → ⊥)
-    → Revises m r i v s (state (out-of (s .sets) (cell-at m r i) v) (marked (s .used) r) (s .weights))
+      → Revises m r i v s (state (out-of (s .sets) (cell-at m r i) v) (marked (s .used) r) (s .weights))
 
 -- or its removal empties the cell, and weighs
 pub data Empties (m : BookMeaning) (r i : ℕ) : ℕ → State → State → Type 0 where
   emptied : {v : ℕ} {s : State} → Lost m r i v (s .sets) → Empty (out-of (s .sets) (cell-at m r i) v) (cell-at m r i)
-    → Empties m r i v s (state (out-of (s .sets) (cell-at m r i) v) (marked (s .used) r) (weighed r (s .weights)))
+      → Empties m r i v s (state (out-of (s .sets) (cell-at m r i) v) (marked (s .used) r) (weighed r (s .weights)))
 
 -- the places at position i of rule r, from the lowest; or up to the one whose removal empties the cell
 abbrev pub Position : BookMeaning → ℕ → ℕ → State → State → Type 0

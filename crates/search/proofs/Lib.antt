@@ -1,0 +1,3 @@
+pub mod Figuring
+pub mod Rooms
+pub mod Tries
