@@ -81,23 +81,23 @@ where-small on n r h =
   let p = kept-small on 0 n (q .0) (q .1) in
   let e = q .2 in omega arith
 
-opens-listed : (s : Sheet) → Opens s → Listed s
+opens-listed : (s : Sheet) → Opens s → Listed (s .lengths)
 opens-listed s (passes l r m) = l
 
 opens-few : (s : Sheet) → Opens s → s .book .count ≤ 64
 opens-few s (passes l r m) = r
 
-opens-named : (s : Sheet) → Opens s → Named s
+opens-named : (s : Sheet) → Opens s → Named (s .book) (cells s)
 opens-named s (passes l r m) = m
 
 module _ (s : Sheet) (opens : Opens s) where
-  pub listed : Listed s
+  pub listed : Listed (s .lengths)
   listed = opens-listed s opens
 
   pub few-rules : s .book .count ≤ 64
   few-rules = opens-few s opens
 
-  pub named : Named s
+  pub named : Named (s .book) (cells s)
   named = opens-named s opens
 
   pub few-cells : cells s ≤ 64
@@ -110,7 +110,7 @@ module _ (s : Sheet) (opens : Opens s) where
       suits = record {
         few = few-rules;
         cells = λ r i h. ⊎-elim
-          (λ lt. let p = named r i lt h in let e = starts-long (s .lengths) pins in omega arith)
+          (λ lt. let p = named r lt i h in let e = starts-long (s .lengths) pins in omega arith)
           (λ ge. absurd (let e = ap length (law .missing r ge) in omega arith))
           (cases-lt r (s .book .count));
       };

@@ -3,7 +3,7 @@ use mathlib.Core.Bool.{Bool}
 use mathlib.Core.List.{List}
 use Prim.Native.Nat.{ℕ, _<_, _≤_}
 use lib.ListN.{length, getD}
-use Rattle.network.specs.Book.{BookMeaning}
+use Rattle.network.specs.Book.{Rule, BookMeaning}
 use Rattle.calls.specs.declared.call.Call.{Call}
 use Rattle.calls.specs.declared.call.Call.the-variants.{Pin, Free, Switch, Fit}
 
@@ -23,22 +23,26 @@ abbrev pub places : Sheet → ℕ → ℕ
 places s c = getD (s .lengths) c 0
 
 -- 1 to 64 cells, each with a list of 1 to 64 places
-pub record Listed (s : Sheet) : Type 0 where
-  pub some : 1 ≤ cells s
-  pub few : cells s ≤ 64
-  pub long : (c : ℕ) → c < cells s → 1 ≤ places s c
-  pub short : (c : ℕ) → c < cells s → places s c ≤ 64
+pub record Listed (lengths : List ℕ) : Type 0 where
+  pub some : 1 ≤ length lengths
+  pub few : length lengths ≤ 64
+  pub long : (c : ℕ) → c < length lengths → 1 ≤ getD lengths c 0
+  pub short : (c : ℕ) → c < length lengths → getD lengths c 0 ≤ 64
+
+-- every cell that the rule names is one of the first n
+abbrev pub Within : Rule → ℕ → Type 0
+Within rule n = (i : ℕ) → i < length (rule .cells) → getD (rule .cells) i 255 < n
 
 -- every cell that a rule names is there
-abbrev pub Named : Sheet → Type 0
-Named s = (r i : ℕ) → r < s .book .count → i < length (s .book .rule r .cells) → getD (s .book .rule r .cells) i 255 < cells s
+abbrev pub Named : BookMeaning → ℕ → Type 0
+Named m n = (r : ℕ) → r < m .count → Within (m .rule r) n
 
 -- what Open's check answers: 0 where it passes, or the number of the first reason to refuse
 pub data Checked (s : Sheet) : ℕ → Type 0 where
-  passes : Listed s → s .book .count ≤ 64 → Named s → Checked s 0
-  lists : (Listed s → ⊥) → Checked s 11
-  rules : Listed s → 64 < s .book .count → Checked s 12
-  missing : Listed s → s .book .count ≤ 64 → (Named s → ⊥) → Checked s 13
+  passes : Listed (s .lengths) → s .book .count ≤ 64 → Named (s .book) (cells s) → Checked s 0
+  lists : (Listed (s .lengths) → ⊥) → Checked s 11
+  rules : Listed (s .lengths) → 64 < s .book .count → Checked s 12
+  missing : Listed (s .lengths) → s .book .count ≤ 64 → (Named (s .book) (cells s) → ⊥) → Checked s 13
 
 -- a session made of what passes is open, and one made of what is refused is shut
 abbrev pub Opens : Sheet → Type 0
