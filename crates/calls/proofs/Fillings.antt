@@ -23,7 +23,7 @@ use Rattle.runs.specs.Settle.{cell-at}
 use Rattle.runs.specs.Law.{Suits, Ready}
 use Rattle.cores.proofs.SetFacts.{has-pow, set-has}
 use Rattle.calls.specs.Sheet.{Sheet, cells, places, Listed, Named, Checked, Checked.passes, Opens}
-use Rattle.calls.specs.History.{Did, standing, set-where, on-after, Filling, Fillable}
+use Rattle.calls.specs.History.{Did, standing, Valid, set-where, on-after, Filling, Fillable}
 use Rattle.calls.specs.Runs.{start-of, starts, start-after}
 
 -- ---- whole lists as sets
@@ -32,12 +32,12 @@ odd-ones j = let e = pow-suc 2 j in let p = pow-pos j in omega arith
 
 pub whole-has : (len v : ℕ) → v < len → In (2 ^ len - 1) v
 whole-has len v lt =
-  let e : len ≡ suc (len - v - 1) + v = omega arith in
-  ap (λ (x : ℕ). (2 ^ x - 1) / 2 ^ v % 2) e ∙ ap (λ (x : ℕ). x / 2 ^ v % 2) (ones-split (suc (len - v - 1)) v) ∙ ap (λ (x : ℕ). x % 2) (high (2 ^ suc (len - v - 1) - 1) v (ones-lt v)) ∙ odd-ones (len - v - 1)
+    let e : len ≡ suc (len - v - 1) + v = omega arith in
+    ap (λ (x : ℕ). (2 ^ x - 1) / 2 ^ v % 2) e ∙ ap (λ (x : ℕ). x / 2 ^ v % 2) (ones-split (suc (len - v - 1)) v) ∙ ap (λ (x : ℕ). x % 2) (high (2 ^ suc (len - v - 1) - 1) v (ones-lt v)) ∙ odd-ones (len - v - 1)
 
 has-whole : (len v : ℕ) → In (2 ^ len - 1) v → v < len
 has-whole len v h = ⊎-elim (λ lt. lt)
-  (λ ge. absurd (let z : (2 ^ len - 1) / 2 ^ v ≡ 0 = div-eq-of-lt (let p = pow-pos len in let q : 2 ^ len ≤ 2 ^ v = pow-mono ge in omega arith) in omega arith)) (cases-lt v len)
+    (λ ge. absurd (let z : (2 ^ len - 1) / 2 ^ v ≡ 0 = div-eq-of-lt (let p = pow-pos len in let q : 2 ^ len ≤ 2 ^ v = pow-mono ge in omega arith) in omega arith)) (cases-lt v len)
 
 -- ---- starting sets
 pub starts-long : (lengths : List ℕ) (pins : ℕ → Option ℕ) → length (starts lengths pins) ≡ length lengths
@@ -45,10 +45,6 @@ starts-long lengths pins = length-map-counting (λ c. start-of (getD lengths c 0
 
 pub starts-at : (lengths : List ℕ) (pins : ℕ → Option ℕ) (c : ℕ) → c < length lengths → getD (starts lengths pins) c 0 ≡ start-of (getD lengths c 0) (pins c)
 starts-at lengths pins c lt = getD-map-counting (λ c. start-of (getD lengths c 0) (pins c)) 0 (length lengths) c c 0 lt (omega arith)
-
--- each pin is a place of its list
-pub record Valid (lengths : List ℕ) (pins : ℕ → Option ℕ) : Type 0 where
-  pub listed : (c v : ℕ) → c < length lengths → pins c ≡ Some v → v < getD lengths c 0
 
 cell-in : (len x : ℕ) (o : Option ℕ) → ((v : ℕ) → o ≡ Some v → v < len) → In (start-of len o) x → (x < len) × ((v : ℕ) → o ≡ Some v → x ≡ v)
 cell-in len x None ok k = (has-whole len x k, λ v e. absurd (let z : _≡_ {A = ℕ} 0 1 = cc in omega arith))
@@ -77,9 +73,9 @@ kept-small on a (suc n) i lt = go (on a) i lt (kept-small on (a + 1) n)
 
 pub where-small : (on : ℕ → Bool) (n r : ℕ) → In (set-where on n) r → r < n
 where-small on n r h =
-  let q = set-has (kept-by on (counting 0 n)) r h in
-  let p = kept-small on 0 n (q .0) (q .1) in
-  let e = q .2 in omega arith
+    let q = set-has (kept-by on (counting 0 n)) r h in
+    let p = kept-small on 0 n (q .0) (q .1) in
+    let e = q .2 in omega arith
 
 opens-listed : (s : Sheet) → Opens s → Listed (s .lengths)
 opens-listed s (passes l r m) = l
@@ -106,38 +102,39 @@ module _ (s : Sheet) (opens : Opens s) where
   -- a run may list any rules that the book has
   pub ready : Lawful (s .book) → (pins : ℕ → Option ℕ) → Valid (s .lengths) pins → (on : ℕ) → ((r : ℕ) → In on r → r < s .book .count) → Ready (s .book) (starts (s .lengths) pins) on
   ready law pins valid on known = record {
-      few = let e = starts-long (s .lengths) pins in let f = listed .few in omega arith;
-      suits = record {
-        few = few-rules;
-        cells = λ r i h. ⊎-elim
+    few = let e = starts-long (s .lengths) pins in let f = listed .few in omega arith;
+    suits = record {
+      few = few-rules;
+      cells = λ r i h. ⊎-elim
           (λ lt. let p = named r lt i h in let e = starts-long (s .lengths) pins in omega arith)
           (λ ge. absurd (let e = ap length (law .missing r ge) in omega arith))
           (cases-lt r (s .book .count));
-      };
-      known = known;
-      full = λ c lt empty.
+    };
+    known = known;
+    full = λ c lt empty.
         let l : c < cells s = let e = starts-long (s .lengths) pins in omega arith in
         let q = cell-some (places s c) (pins c) (listed .long c l) (listed .short c l) (λ v. valid .listed c v l) in
         empty (q .0) (q .1, subst (λ (x : ℕ). In x (q .0)) (sym (starts-at (s .lengths) pins c l)) (q .2));
-    }
+  }
 
   module _ (h : List Did) (valid : Valid (s .lengths) (standing h)) where
     pub inside-filling : (f : List ℕ) → Inside f (start-after s h) → Filling s h f
     inside-filling f i =
-      let long : length (start-after s h) ≡ cells s = starts-long (s .lengths) (standing h) in
-      let q : (c : ℕ) → c < cells s → (getD f c 0 < places s c) × ((v : ℕ) → standing h c ≡ Some v → getD f c 0 ≡ v) =
+        let long : length (start-after s h) ≡ cells s = starts-long (s .lengths) (standing h) in
+        let q : (c : ℕ) → c < cells s → (getD f c 0 < places s c) × ((v : ℕ) → standing h c ≡ Some v → getD f c 0 ≡ v) =
         λ c lt. cell-in (places s c) (getD f c 0) (standing h c) (λ v. valid .listed c v lt) (subst (λ (y : ℕ). In y (getD f c 0)) (starts-at (s .lengths) (standing h) c lt) (i .each c (omega arith) .1)) in
-      record { long = i .long ∙ long; listed = λ c lt. q c lt .0; keeps = λ c v lt e. q c lt .1 v e }
+        record { long = i .long ∙ long; listed = λ c lt. q c lt .0; keeps = λ c v lt e. q c lt .1 v e }
 
     filling-inside : (f : List ℕ) → Filling s h f → Inside f (start-after s h)
     filling-inside f i =
-      let long : length (start-after s h) ≡ cells s = starts-long (s .lengths) (standing h) in
-      record {
-        long = i .long ∙ sym long;
-        each = λ c lt. let l : c < cells s = omega arith in
-          (let p = i .listed c l in let q = listed .short c l in omega arith,
-           subst (λ (y : ℕ). In y (getD f c 0)) (sym (starts-at (s .lengths) (standing h) c l)) (cell-out (places s c) (getD f c 0) (standing h c) (i .listed c l) (λ v e. i .keeps c v l e)));
-      }
+        let long : length (start-after s h) ≡ cells s = starts-long (s .lengths) (standing h) in
+        record {
+          long = i .long ∙ sym long;
+          each = λ c lt. let l : c < cells s = omega arith in (
+            let p = i .listed c l in let q = listed .short c l in omega arith,
+            subst (λ (y : ℕ). In y (getD f c 0)) (sym (starts-at (s .lengths) (standing h) c l)) (cell-out (places s c) (getD f c 0) (standing h c) (i .listed c l) (λ v e. i .keeps c v l e)),
+          );
+        }
 
     -- some filling inside the starting sets meets the rules exactly if some filling under the pins does
     pub met-fillable : (a : ℕ) → Meetable (s .book) (start-after s h) a → Fillable s h a

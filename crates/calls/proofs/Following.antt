@@ -95,7 +95,7 @@ back ShortBuffer = refl
 clear : {x : Values} → _≡_ {A = Option Values} None (Some x) → ⊥
 clear e = let z : _≡_ {A = ℕ} 0 1 = cc in omega arith
 
-refused-not-done : (r : Refusal) → number-of r ≡ 0 → ⊥
+pub refused-not-done : (r : Refusal) → number-of r ≡ 0 → ⊥
 refused-not-done Lists e = omega arith
 refused-not-done TooManyRules e = omega arith
 refused-not-done MissingCell e = omega arith
@@ -133,39 +133,41 @@ values-same f g a b c = same a b c
 
 module _ {C : Type 0} (k : Machine C) (s : Sheet) where
   fit-agree : (h : List Did) (a a′ : Step) (f g : Values) {x y y′ : Lasting C} → StepRuns k s h x a f y → StepRuns k s h x a′ g y′
-    → (f ≡ g) × (lines-of a f ≡ lines-of a′ g) × (f .verdict ≡ 0 → filling-of s a ≡ filling-of s a′) × (y ≡ y′)
+      → (f ≡ g) × (lines-of a f ≡ lines-of a′ g) × (f .verdict ≡ 0 → filling-of s a ≡ filling-of s a′) × (y ≡ y′)
   fit-agree h a a′ f g p q =
-    let e = fit-same (Ran k (s .book) (start-after s h)) (ran-fixed k (s .book) (start-after s h)) (p .runs) (q .runs) in
-    let n = length-take-le (f .lines) (vec-items (a .buffers .log)) (p .counted) in
-    let m = length-take-le (g .lines) (vec-items (a′ .buffers .log)) (q .counted) in
-    let lines : f .lines ≡ g .lines = sym n ∙ ap length (e .0) ∙ m in
-    let wide = starts-long (s .lengths) (standing h) in
-    let c = comes-same (q .out) f g (take (length (start-after s h)) (vec-items (a .buffers .filling))) (take (length (start-after s h)) (vec-items (a′ .buffers .filling))) (subst (λ (o : Outcome (List ℕ)). Comes o f (take (length (start-after s h)) (vec-items (a .buffers .filling)))) (e .1) (p .comes)) (q .comes) in
-    (values-same f g (c .0) lines (c .1), e .0,
-      λ z. sym (ap (λ (i : ℕ). take i (vec-items (a .buffers .filling))) wide) ∙ c .2 z ∙ ap (λ (i : ℕ). take i (vec-items (a′ .buffers .filling))) wide,
-      e .2)
+      let e = fit-same (Ran k (s .book) (start-after s h)) (ran-fixed k (s .book) (start-after s h)) (p .runs) (q .runs) in
+      let n = length-take-le (f .lines) (vec-items (a .buffers .log)) (p .counted) in
+      let m = length-take-le (g .lines) (vec-items (a′ .buffers .log)) (q .counted) in
+      let lines : f .lines ≡ g .lines = sym n ∙ ap length (e .0) ∙ m in
+      let wide = starts-long (s .lengths) (standing h) in
+      let c = comes-same (q .out) f g (take (length (start-after s h)) (vec-items (a .buffers .filling))) (take (length (start-after s h)) (vec-items (a′ .buffers .filling))) (subst (λ (o : Outcome (List ℕ)). Comes o f (take (length (start-after s h)) (vec-items (a .buffers .filling)))) (e .1) (p .comes)) (q .comes) in (
+        values-same f g (c .0) lines (c .1),
+        e .0,
+        λ z. sym (ap (λ (i : ℕ). take i (vec-items (a .buffers .filling))) wide) ∙ c .2 z ∙ ap (λ (i : ℕ). take i (vec-items (a′ .buffers .filling))) wide,
+        e .2,
+      )
 
   -- the same sizes and the same call
   alike-judged : {b b′ : Step} {n : ℕ} → Alike b b′ → Judged s (sizes (b′ .buffers)) (b′ .call) n → Judged s (sizes (b .buffers)) (b .call) n
   alike-judged {b} {b′} {n} e j =
-    let z : sizes (b′ .buffers) ≡ sizes (b .buffers) = sizes-same (sym (e .work)) (sym (e .log)) (sym (e .filling)) in
-    subst₂ (λ (w : Sizes) (c : Call). Judged s w c n) z (sym (e .call)) j
+      let z : sizes (b′ .buffers) ≡ sizes (b .buffers) = sizes-same (sym (e .work)) (sym (e .log)) (sym (e .filling)) in
+      subst₂ (λ (w : Sizes) (c : Call). Judged s w c n) z (sym (e .call)) j
     where
       sizes-same : {w w′ l l′ f f′ : ℕ} → w ≡ w′ → l ≡ l′ → f ≡ f′ → _≡_ {A = Sizes} (record { work = w; log = l; filling = f }) (record { work = w′; log = l′; filling = f′ })
       sizes-same a b c = cc
 
   agree-plain : {n : ℕ} {a a′ : Step} → a .call ≡ a′ .call → said (a .answer) ≡ plain n → said (a′ .answer) ≡ plain n → Agree s a a′
   agree-plain {n} {a} {a′} call e e′ = record {
-      call = call;
-      answer = said-same (a .answer) (a′ .answer) (e ∙ sym e′);
-      lines = λ f q. absurd (clear (sym (ap (λ (w : Said). w .values) e) ∙ ap (λ (w : Said). w .values) q));
-      filling = λ f q z. absurd (clear (sym (ap (λ (w : Said). w .values) e) ∙ ap (λ (w : Said). w .values) q));
-    }
+    call = call;
+    answer = said-same (a .answer) (a′ .answer) (e ∙ sym e′);
+    lines = λ f q. absurd (clear (sym (ap (λ (w : Said). w .values) e) ∙ ap (λ (w : Said). w .values) q));
+    filling = λ f q z. absurd (clear (sym (ap (λ (w : Said). w .values) e) ∙ ap (λ (w : Said). w .values) q));
+  }
 
   makes-same : {h : List Did} {x y y′ : Lasting C} {b b′ a a′ : Step} → Alike b b′ → Makes s (λ h x b a f y. StepRuns k s h x a f y) h x b a y → Makes s (λ h x b a f y. StepRuns k s h x a f y) h x b′ a′ y′
-    → Agree s a a′ × (y ≡ y′)
+      → Agree s a a′ × (y ≡ y′)
   makes-same {b = b} {b′ = b′} {a = a} {a′ = a′} e (refused {n = n} j ne i u) (refused {n = m} j′ ne′ i′ u′) =
-    (agree-plain (u .call ∙ e .call ∙ sym (u′ .call)) i (i′ ∙ ap plain (sym (judged-same j (alike-judged e j′)))), refl)
+      (agree-plain (u .call ∙ e .call ∙ sym (u′ .call)) i (i′ ∙ ap plain (sym (judged-same j (alike-judged e j′)))), refl)
   makes-same e (refused j ne i u) (changed j′ ne′ i′ u′) = absurd (ne (judged-same j (alike-judged e j′)))
   makes-same e (refused j ne i u) (fitted j′ is i′ call d) = absurd (ne (judged-same j (alike-judged e j′)))
   makes-same e (changed j ne i u) (refused j′ ne′ i′ u′) = absurd (ne′ (sym (judged-same j (alike-judged e j′))))
@@ -174,25 +176,27 @@ module _ {C : Type 0} (k : Machine C) (s : Sheet) where
   makes-same e (fitted j is i call d) (refused j′ ne′ i′ u′) = absurd (ne′ (sym (judged-same j (alike-judged e j′))))
   makes-same e (fitted j is i call d) (changed j′ ne′ i′ u′) = absurd (ne′ (sym (e .call) ∙ is))
   makes-same {h} {a = a} {a′ = a′} e (fitted {f = f} j is i call d) (fitted {f = g} j′ is′ i′ call′ d′) =
-    let q = fit-agree h a a′ f g d d′ in
-    (record {
-        call = call ∙ e .call ∙ sym call′;
-        answer = said-same (a .answer) (a′ .answer) (i ∙ ap returned (q .0) ∙ sym i′);
-        lines = λ v w. let z : f ≡ v = same-values (sym i ∙ w) in subst (λ (t : Values). lines-of a t ≡ lines-of a′ t) z (q .1 ∙ ap (lines-of a′) (sym (q .0)));
-        filling = λ v w z. q .2 (ap (λ (t : Values). t .verdict) (same-values (sym i ∙ w)) ∙ z);
-      }, q .3)
+      let q = fit-agree h a a′ f g d d′ in (
+        record {
+          call = call ∙ e .call ∙ sym call′;
+          answer = said-same (a .answer) (a′ .answer) (i ∙ ap returned (q .0) ∙ sym i′);
+          lines = λ v w. let z : f ≡ v = same-values (sym i ∙ w) in subst (λ (t : Values). lines-of a t ≡ lines-of a′ t) z (q .1 ∙ ap (lines-of a′) (sym (q .0)));
+          filling = λ v w z. q .2 (ap (λ (t : Values). t .verdict) (same-values (sym i ∙ w)) ∙ z);
+        },
+        q .3,
+      )
     where
       same-values : {f g : Values} → returned f ≡ returned g → f ≡ g
       same-values {f} {g} w = let v = ap (λ (t : Said). t .values) w in let z : f ≡ g = cc in z
 
   plays-same : {before before′ : List Step} → Pairwise Alike before before′ → (h : List Did) (x y y′ : Lasting C) (after after′ : List Step) → PlaysByRuns k s h x before after y
-    → PlaysByRuns k s h x before′ after′ y′ → Pairwise (Agree s) after after′ × (y ≡ y′)
+      → PlaysByRuns k s h x before′ after′ y′ → Pairwise (Agree s) after after′ × (y ≡ y′)
   plays-same no-pairs h x y y′ after after′ none none = (no-pairs, refl)
   plays-same (and-pairs e es) h x y y′ _ _ (more {t = t} {a = a} {after = after} d p) (more {a = a′} {before = before′} {after = after′} d′ p′) =
-    let q = makes-same e d d′ in
-    let i : did a ≡ did a′ = did-same (q .0 .call) (q .0 .answer) in
-    let r = plays-same es (did a ∷ h) t y y′ after after′ p (subst₂ (λ (c : Did) (t : Lasting C). PlaysByRuns k s (c ∷ h) t before′ after′ y′) (sym i) (sym (q .1)) p′) in
-    (and-pairs (q .0) (r .0), r .1)
+      let q = makes-same e d d′ in
+      let i : did a ≡ did a′ = did-same (q .0 .call) (q .0 .answer) in
+      let r = plays-same es (did a ∷ h) t y y′ after after′ p (subst₂ (λ (c : Did) (t : Lasting C). PlaysByRuns k s (c ∷ h) t before′ after′ y′) (sym i) (sym (q .1)) p′) in
+      (and-pairs (q .0) (r .0), r .1)
     where
       did-same : {c c′ : Call} {a a′ : Answer} → c ≡ c′ → a ≡ a′ → _≡_ {A = Did} (record { call = c; answer = a }) (record { call = c′; answer = a′ })
       did-same e f = cc

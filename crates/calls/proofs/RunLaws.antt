@@ -39,9 +39,9 @@ module _ {C : Type 0} (k : Machine C) (naming : Naming k) (m : BookMeaning) (law
 module _ {C : Type 0} (k : Machine C) (m : BookMeaning) (start : List ℕ) where
   ran-same : {s t t′ : Lasting C} {l l′ : Line} {sets sets′ : List ℕ} → Ran k m start s l sets t → Ran k m start s l′ sets′ t′ → l .listed ≡ l′ .listed → (l ≡ l′) × (sets ≡ sets′) × (t ≡ t′)
   ran-same {s} {t} {t′} {l} {l′} {sets} {sets′} p q e =
-    let d = only-run (p .run) l′ (t′ .chooser) (t′ .weights) sets′
-        (subst (λ (x : ℕ). Run k m start x (s .chooser) (s .weights) l′ (t′ .chooser) (t′ .weights) sets′) (sym e) (q .run)) in
-    (sym (d .0), sym (d .3), ap₂ lasting (sym (d .1)) (sym (d .2)))
+      let d = only-run (p .run) l′ (t′ .chooser) (t′ .weights) sets′
+      (subst (λ (x : ℕ). Run k m start x (s .chooser) (s .weights) l′ (t′ .chooser) (t′ .weights) sets′) (sym e) (q .run)) in
+      (sym (d .0), sym (d .3), ap₂ lasting (sym (d .1)) (sym (d .2)))
 
   pub ran-fixed : Fixed (Ran k m start)
   ran-fixed = record { same = ran-same }

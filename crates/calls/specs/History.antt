@@ -49,6 +49,10 @@ abbrev pub is-on : List Did → ℕ → Bool
 is-on [] r = true
 is-on (d ∷ h) r = cond (accepted d) (switched (d .call) r (is-on h r)) (is-on h r)
 
+-- each pin is a place of its cell's list
+pub record Valid (lengths : List ℕ) (pins : ℕ → Option ℕ) : Type 0 where
+  pub listed : (c v : ℕ) → c < length lengths → pins c ≡ Some v → v < getD lengths c 0
+
 -- the set of the first n rules for which a test holds
 abbrev pub set-where : (ℕ → Bool) → ℕ → ℕ
 set-where on n = setOf (kept-by on (counting 0 n))

@@ -1,1 +1,3 @@
 pub mod Starting
+pub mod Changing
+pub mod Fitting

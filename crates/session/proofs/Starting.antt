@@ -23,8 +23,8 @@ counting-push a (suc n) = ap (λ (xs : List ℕ). a ∷ xs) (counting-push (a + 
 
 where-push : (p : ℕ → Bool) (n : ℕ) → set-where p (n + 1) ≡ setOf (kept-by p (counting 0 n) ++ cond (p n) (n ∷ []) [])
 where-push p n =
-  let z : 0 + n ≡ n = omega arith in
-  ap (set-where p) (add-one n) ∙ ap (λ (xs : List ℕ). setOf (kept-by p xs)) (counting-push 0 n ∙ ap (λ (x : ℕ). counting 0 n ++ x ∷ []) z) ∙ ap setOf (kept-by-append p (counting 0 n) (n ∷ []))
+    let z : 0 + n ≡ n = omega arith in
+    ap (set-where p) (add-one n) ∙ ap (λ (xs : List ℕ). setOf (kept-by p xs)) (counting-push 0 n ∙ ap (λ (x : ℕ). counting 0 n ++ x ∷ []) z) ∙ ap setOf (kept-by-append p (counting 0 n) (n ∷ []))
 
 pub where-on : (p : ℕ → Bool) (n : ℕ) → p n ≡ true → set-where p (n + 1) ≡ bitOr (set-where p n) (2 ^ n)
 where-on p n e = where-push p n ∙ ap (λ (b : Bool). setOf (kept-by p (counting 0 n) ++ cond b (n ∷ []) [])) e ∙ set-push (kept-by p (counting 0 n)) n
@@ -36,13 +36,19 @@ pub where-none : (p : ℕ → Bool) → 0 ≡ set-where p 0
 unfolding setOf
 where-none p = refl
 
+-- a byte that is the lowest place of a set, and a place
+abbrev pub Low : ℕ → ℕ → Type 0
+Low s v = Lowest s v × (v < 64)
+
 -- one more byte
-pub lowest-more : (sets filling filling₀ : List ℕ) (n v : ℕ) → n < length sets → n < length filling → (getD sets n 0 ≢ 0 → Lowest (getD sets n 0) v × (v < 64))
-  → ((k : ℕ) → k < n → getD sets k 0 ≢ 0 → Lowest (getD sets k 0) (getD filling k 0)) × (drop (length sets) filling ≡ drop (length sets) filling₀)
-  → ((k : ℕ) → k < n + 1 → getD sets k 0 ≢ 0 → Lowest (getD sets k 0) (getD (set filling n v) k 0)) × (drop (length sets) (set filling n v) ≡ drop (length sets) filling₀)
-lowest-more sets filling filling₀ n v ls lf low i =
-  (λ k lt ne. elim (cases-eq k n) [
-      inl e ↦ subst (λ (x : ℕ). getD sets x 0 ≢ 0 → Lowest (getD sets x 0) (getD (set filling n v) x 0)) (sym e)
-        (λ some. subst (Lowest (getD sets n 0)) (sym (getD-set-same filling n v 0 lf)) (low some .0)) ne
-    | inr other ↦ subst (Lowest (getD sets k 0)) (sym (getD-set-other filling n k v 0 other)) (i .0 k (omega arith) ne) ],
-   drop-set-lt (length sets) filling n v ls ∙ i .1)
+pub lowest-more : (sets filling filling₀ : List ℕ) (n v : ℕ) → n < length sets → n < length filling → (getD sets n 0 ≢ 0 → Low (getD sets n 0) v)
+    → ((k : ℕ) → k < n → getD sets k 0 ≢ 0 → Low (getD sets k 0) (getD filling k 0)) × (drop (length sets) filling ≡ drop (length sets) filling₀)
+    → ((k : ℕ) → k < n + 1 → getD sets k 0 ≢ 0 → Low (getD sets k 0) (getD (set filling n v) k 0)) × (drop (length sets) (set filling n v) ≡ drop (length sets) filling₀)
+lowest-more sets filling filling₀ n v ls lf low i = (
+  λ k lt ne. elim (cases-eq k n) [
+    | inl e ↦ subst (λ (x : ℕ). getD sets x 0 ≢ 0 → Low (getD sets x 0) (getD (set filling n v) x 0)) (sym e)
+        (λ some. subst (Low (getD sets n 0)) (sym (getD-set-same filling n v 0 lf)) (low some)) ne
+    | inr other ↦ subst (Low (getD sets k 0)) (sym (getD-set-other filling n k v 0 other)) (i .0 k (omega arith) ne)
+  ],
+  drop-set-lt (length sets) filling n v ls ∙ i .1,
+)

@@ -8,7 +8,7 @@ ghost use Rattle.std.specs.declared.option.Option.the-variants.{None};
 ghost use Rattle.bits.specs.Sets.{Lowest};
 ghost use Rattle.calls.specs.History.{set-where};
 ghost use Rattle.calls.specs.Runs.{start-of, starts};
-ghost use Rattle.session.specs.Table.{held};
+ghost use Rattle.session.specs.Calls.{held};
 use bits::lowest;
 use bits::only;
 use bits::with;
@@ -18,7 +18,11 @@ fn whole(length: u8) -> u64
     requires { ⌜ «length» ≤ 64 ⌝ }
     ensures { λ r. ⌜ r ≡ 2 ^ «length» - 1 ⌝ }
 {
-    if length == 64 { u64::MAX } else { (1 << length) - 1 }
+    if length == 64 {
+        u64::MAX
+    } else {
+        (1 << length) - 1
+    }
 }
 
 /// What a cell starts with: its pin alone, if that is a place of its list, or its whole list.
@@ -39,9 +43,9 @@ fn start_of(length: u8, pin: Option<u8>) -> u64
 }
 
 /// Writes what each cell starts with.
-pub fn set_starts(lengths: &[u8], pins: &[Option<u8>], start: &mut [u64])
+pub fn set_starts(lengths: &[u8], pins: &[Option<u8>; 64], start: &mut [u64])
     requires cells { ⌜ length (now start) ≡ length (now lengths) ⌝ }
-    requires pinned { ⌜ length (now lengths) ≤ length (now pins) ⌝ }
+    requires few { ⌜ length (now lengths) ≤ 64 ⌝ }
     requires short { ⌜ ((c : ℕ) → c < length (now lengths) → getD (now lengths) c 0 ≤ 64) ⌝ }
     ensures { λ _. ⌜ now (start .exit) ≡ starts (now (lengths .entry)) (λ c. held (getD (now (lengths .entry)) c 0) (getD (now (pins .entry)) c None)) ⌝ }
 {
@@ -51,9 +55,8 @@ pub fn set_starts(lengths: &[u8], pins: &[Option<u8>], start: &mut [u64])
 }
 
 /// The first rules that are on.
-pub fn rules_on(switches: &[bool], count: u16) -> u64
-    requires few { ⌜ count ≤ 64 ⌝ }
-    requires switched { ⌜ count ≤ length (now switches) ⌝ }
+pub fn rules_on(switches: &[bool; 64], count: u16) -> u64
+    requires { ⌜ count ≤ 64 ⌝ }
     ensures { λ r. ⌜ r ≡ set-where (λ r. getD (now (switches .entry)) r false) count ⌝ }
 {
     let mut on = 0;
@@ -68,7 +71,7 @@ pub fn rules_on(switches: &[bool], count: u16) -> u64
 /// Writes the lowest place of each set, one byte a cell.
 pub fn write_lowest(sets: &[u64], filling: &mut [u8])
     requires { ⌜ length (now sets) ≤ length (now filling) ⌝ }
-    ensures places { λ _. ⌜ ((c : ℕ) → c < length (now (sets .entry)) → getD (now (sets .entry)) c 0 ≢ 0 → Lowest (getD (now (sets .entry)) c 0) (getD (now (filling .exit)) c 0)) ⌝ }
+    ensures places { λ _. ⌜ ((c : ℕ) → c < length (now (sets .entry)) → getD (now (sets .entry)) c 0 ≢ 0 → Lowest (getD (now (sets .entry)) c 0) (getD (now (filling .exit)) c 0) × (getD (now (filling .exit)) c 0 < 64)) ⌝ }
     ensures later { λ _. ⌜ drop (length (now (sets .entry))) (now (filling .exit)) ≡ drop (length (now (sets .entry))) (now (filling .entry)) ⌝ }
 {
     for cell in 0..sets.len() {

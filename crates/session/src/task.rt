@@ -29,7 +29,14 @@ pub impl<B: RuleBook, C: Chooser> Runner<C> for Task<'_, B> as TaskRunner {
 
     ghost laws = { λ t. ran-laws (C·Chooser .meaning) (C·Chooser .laws) (B·RuleBook .meaning (now (t .book))) (B·RuleBook .laws (now (t .book))) (now (t .start)) };
 
-    fn run(&self, chooser: &mut C, weights: &mut [u32], listed: u64, work: &mut [u64], sets: &mut [u64]) -> Line {
+    fn run(
+        &self,
+        chooser: &mut C,
+        weights: &mut [u32],
+        listed: u64,
+        work: &mut [u64],
+        sets: &mut [u64],
+    ) -> Line {
         run(self.book, chooser, weights, self.start, listed, work, sets)
     }
 }

@@ -15,7 +15,8 @@ pub loop-rule-again : need.loop-rule-again
 loop-rule-again c =
     let n = c .loop-rule .rule in
     let p = λ (r : ℕ). getD (c .args .switches .now) r false in
-    let lt : n < 64 = omega (arith, c .pre .few, c .loop-rule-test .taken) in
+    let lt : n < 64 = omega (arith, c .pre, c .loop-rule-test .taken) in
     elim (c .if-switches-rule .came) [
-        then-switches-rule w ↦ w .on-is ∙ w .with-on .ensures .more lt ∙ ap (λ (x : ℕ). bitOr x (2 ^ n)) (c .loop-rule .inv) ∙ sym (where-on p n (w .if-switches-rule .taken))
-      | else-switches-rule w ↦ w .on-is ∙ c .loop-rule .inv ∙ sym (where-off p n (w .if-switches-rule .left)) ]
+      | then-switches-rule w ↦ w .on-is ∙ w .with-on .ensures .more lt ∙ ap (λ (x : ℕ). bitOr x (2 ^ n)) (c .loop-rule .inv) ∙ sym (where-on p n (w .if-switches-rule .taken))
+      | else-switches-rule w ↦ w .on-is ∙ c .loop-rule .inv ∙ sym (where-off p n (w .if-switches-rule .left))
+    ]

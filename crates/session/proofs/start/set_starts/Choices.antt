@@ -3,7 +3,7 @@ use Prim.Native.Nat.{ℕ, _<_}
 use lib.ListN.{getD}
 use Rattle.std.specs.declared.option.Option.the-variants.{None}
 use Rattle.calls.specs.Runs.{start-of}
-use Rattle.session.specs.Table.{held}
+use Rattle.session.specs.Calls.{held}
 use Rattle.session.proofs.start.set_starts.Given as given
 
 abbrev pub Inv-loop-cell : given.InvT-loop-cell
