@@ -96,7 +96,7 @@ module _ {C : Type 0} (k : Machine C) (naming : Naming k) (s : Sheet) (law : Law
           counted = d .0 .counted;
           right = each-map (Meetable (s .book) (start-after s h)) (Fillable s h) (met-fillable s opens h valid) (fillable-met s opens h valid) (lines-of a f) (l .lines);
           keeps = d .1;
-          work = d .2;
+          sized = d .2;
         }
 
 -- ---- what stands is valid

@@ -11,7 +11,7 @@ use Rattle.runs.specs.Law.{Right, Ready, Fills}
 use Rattle.runs.specs.Run.{Run}
 use Rattle.runs.proofs.Running.{run-right, run-fills}
 use Rattle.runs.proofs.OneRun.{only-run}
-use Rattle.cores.specs.Fit.{Fixed}
+use Rattle.cores.proofs.Unique.{Fixed}
 use Rattle.cores.specs.Fit.{Lawful as LawfulRuns}
 use Rattle.clash.specs.Running.{Lasting, lasting, Laws}
 use Rattle.calls.specs.Runs.{Ran}

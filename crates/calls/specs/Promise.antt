@@ -3,7 +3,7 @@ use mathlib.Core.Path.{_≡_}
 use mathlib.Core.List.{List, [], _∷_}
 use Prim.Native.Nat.{ℕ, _≤_}
 use lib.ListN.{length, take, drop}
-use Rattle.std.specs.Of.Vec.{vec-len, vec-items}
+use Rattle.std.specs.Of.Vec.{vec-items}
 use Rattle.bits.specs.Sets.{size}
 use Rattle.network.specs.Fillings.{MeetsAll}
 use Rattle.runs.specs.declared.line.Line.{Line}
@@ -13,7 +13,7 @@ use Rattle.clash.specs.declared.fitted.Fitted.{Fitted as Values}
 use Rattle.calls.specs.declared.step.Step.{Step}
 use Rattle.calls.specs.Sheet.{Sheet, cells}
 use Rattle.calls.specs.History.{Did, on-after, Filling, Fillable}
-use Rattle.calls.specs.Plays.{Plays}
+use Rattle.calls.specs.Plays.{sizes, Plays}
 
 -- the lines that a Fit wrote, and the bytes of its filling
 abbrev pub lines-of : Step → Values → List Line
@@ -37,6 +37,7 @@ pub record Clashed (s : Sheet) (h : List Did) (a : Step) (f : Values) : Type 0 w
   pub core : Core (Fillable s h) (on-after s h) (f .core)
   pub few : Short (size (on-after s h)) (size (f .core)) (f .lines)
 
+-- the one or the other
 pub data Ended (s : Sheet) (h : List Did) (a : Step) (f : Values) : Type 0 where
   filled : Filled s h a f → Ended s h a f
   clashed : Clashed s h a f → Ended s h a f
@@ -50,13 +51,13 @@ pub record Keeps (cells : ℕ) (f : Values) (log log′ : List Line) (filling fi
 abbrev pub StepKeeps : Sheet → Step → Step → Values → Type 0
 StepKeeps s b a f = Keeps (cells s) f (vec-items (b .buffers .log)) (vec-items (a .buffers .log)) (vec-items (b .buffers .filling)) (vec-items (a .buffers .filling))
 
--- a Fit after the calls h: a filling or a core; as many lines as it returns, each right by the fillings under the standing pins; all else is kept, and the work buffer's length
+-- a Fit after the calls h: a filling or a core; as many lines as it returns, each right by the fillings under the standing pins; all else is kept, and how long the buffers are
 pub record FillingOrCore (s : Sheet) (h : List Did) (b a : Step) (f : Values) : Type 0 where
   pub ended : Ended s h a f
   pub counted : f .lines ≤ length (vec-items (a .buffers .log))
   pub right : Each (Right (Fillable s h)) (lines-of a f)
   pub keeps : StepKeeps s b a f
-  pub work : vec-len (a .buffers .work) ≡ vec-len (b .buffers .work)
+  pub sized : sizes (a .buffers) ≡ sizes (b .buffers)
 
 -- every call is answered as it is judged, every refused call changes nothing, and every Fit gives a filling or a core
 abbrev pub FillingsAndCores : Sheet → List Step → List Step → Type 0

@@ -21,7 +21,7 @@ use Rattle.calls.specs.declared.step.Step.{Step}
 use Rattle.calls.specs.Answers.{said, returned}
 use Rattle.calls.specs.Sheet.{Sheet, cells, places}
 use Rattle.calls.specs.History.{Did, standing, on-after}
-use Rattle.calls.specs.Plays.{Plays}
+use Rattle.calls.specs.Plays.{sizes, Plays}
 use Rattle.calls.specs.Promise.{lines-of, filling-of, StepKeeps}
 
 -- a run that may be asked for, from a chooser and weights to others: it writes the line and leaves the sets
@@ -62,9 +62,9 @@ pub record FitRuns {C : Type 0} (k : Machine C) (m : BookMeaning) (start : List 
 abbrev pub StepRuns : {C : Type 0} → Machine C → Sheet → List Did → Lasting C → Step → Values → Lasting C → Type 0
 StepRuns k s h x a f y = FitRuns k (s .book) (start-after s h) (on-after s h) x (vec-items (a .buffers .log)) (vec-items (a .buffers .filling)) f y
 
--- and what it keeps
+-- with what it keeps
 abbrev pub StepDone : {C : Type 0} → Machine C → Sheet → List Did → Lasting C → Step → Step → Values → Lasting C → Type 0
-StepDone k s h x b a f y = StepRuns k s h x a f y × StepKeeps s b a f × (vec-len (a .buffers .work) ≡ vec-len (b .buffers .work))
+StepDone k s h x b a f y = StepRuns k s h x a f y × StepKeeps s b a f × (sizes (a .buffers) ≡ sizes (b .buffers))
 
 -- calls one after another, each Fit by its runs: from a chooser and weights to others
 abbrev pub PlaysByRuns : {C : Type 0} → Machine C → Sheet → List Did → Lasting C → List Step → List Step → Lasting C → Type 0

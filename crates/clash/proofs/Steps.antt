@@ -6,13 +6,13 @@ use Prim.Native.Nat.{ℕ, _+_, _-_, _*_, _/_, _<_, _≤_, _^_}
 use native.Mathlib.Omega.{arith}
 use lib.ListN.{length, take}
 use Rattle.std.proofs.shelf.Lists.{append-assoc, append-nil}
-use Rattle.bits.specs.Sets.{members, size}
+use Rattle.bits.specs.Sets.{Subset, members, size}
 use Rattle.runs.specs.declared.line.Line.{Line}
 use Rattle.runs.specs.Law.{Right}
 use Rattle.cores.specs.Core.{Outcome, Outcome.left, Outcome.core}
 use Rattle.cores.specs.Fit.{with-first, with-rule, Lawful, Gives, Shrinks, Shrinks.all, Shrinks.fewer, Halves, Halves.met, Halves.down, Halves.up, Rounds, Rounds.alone, Rounds.round, Fit, Fit.fills, Fit.clashes}
 use Rattle.cores.proofs.SetFacts.{size-most}
-use Rattle.cores.proofs.CoreLaw.{shrinks-law}
+use Rattle.cores.proofs.CoreLaw.{shrinks-law, fit-law}
 use Rattle.clash.specs.declared.fitted.Fitted.{Fitted}
 use Rattle.clash.specs.Logged.{Wrote, Answers, Logged}
 use Rattle.clash.proofs.LogFacts.{wrote-then}
@@ -61,24 +61,27 @@ module _ {S O : Type 0} (R : S → Line → O → S → Type 0) where
     round-end {f₀} {found = found} {m = m} {s₀} {t = t} ws e g k = subst (λ (x : ℕ). Rounds R cs f₀ x s₀ (ws ++ m ∷ []) found t) e (k (m ∷ []) found t (alone g))
 
   -- ---- a whole Fit
-  logged : {on : ℕ} {s t : S} {sets : O} {ls before after : List Line} {out : Outcome O} (f : Fitted) → f .lines ≤ length after → Wrote before 0 (f .lines) ls after → Answers out f sets
-      → Fit R on s ls out t → Logged R on s before f t sets after
-  logged {on} {s} {t} {out = out} f i w a p = record { out = out; runs = subst (λ (xs : List Line). Fit R on s xs out t) (sym (w .begins)) p; answers = a; inside = i; keeps = w .keeps }
+  module _ (Fits : ℕ → Type 0) (law : Lawful R Fits) where
+    logged : {on : ℕ} {s t : S} {sets : O} {ls before after : List Line} {out : Outcome O} (f : Fitted) → on < 2 ^ 64 → f .lines ≤ length after → Wrote before 0 (f .lines) ls after → Answers out f sets
+        → Fit R on s ls out t → Logged R Fits on s before f t sets after
+    logged {on} {s} {t} {after = after} {out = out} f h i w a p =
+        let runs : Fit R on s (take (f .lines) after) out t = subst (λ (xs : List Line). Fit R on s xs out t) (sym (w .begins)) p in
+        record { out = out; runs = runs; promise = fit-law R Fits law h runs; answers = a; inside = i; keeps = w .keeps }
 
-  pub filled : {on : ℕ} {s t : S} {o : O} {l : Line} {before after : List Line} → 1 ≤ length after → Wrote before 0 1 (l ∷ []) after → Gives R on 0 s l o t
-      → Logged R on s before (record { verdict = 0; lines = 1; core = 0 }) t o after
-  filled {o = o} i w g = logged (record { verdict = 0; lines = 1; core = 0 }) i w (refl, refl, refl) (fills g)
+    pub filled : {on : ℕ} {s t : S} {o : O} {l : Line} {before after : List Line} → on < 2 ^ 64 → 1 ≤ length after → Wrote before 0 1 (l ∷ []) after → Gives R on 0 s l o t
+        → Logged R Fits on s before (record { verdict = 0; lines = 1; core = 0 }) t o after
+    filled h i w g = logged (record { verdict = 0; lines = 1; core = 0 }) h i w (refl, refl, refl) (fills g)
 
-  pub searched : {on c a b found : ℕ} {s t u w : S} {o sets : O} {l : Line} {ls ms before first middle after : List Line} → b ≤ length after → Wrote before 0 1 (l ∷ []) first → Gives R on 1 s l o t
-      → Wrote first 1 a ls middle → Shrinks R l t ls c u → Wrote middle a b ms after → Rounds R (members c) 0 (size c) u ms found w
-      → Logged R on s before (record { verdict = 1; lines = b; core = found }) w sets after
-  searched {b = b} {found = found} i w₁ g w₂ p w₃ q = logged (record { verdict = 1; lines = b; core = found }) i (wrote-then (wrote-then w₁ w₂) w₃) (refl, refl) (clashes g p q)
+    pub searched : {on c a b found : ℕ} {s t u w : S} {o sets : O} {l : Line} {ls ms before first middle after : List Line} → on < 2 ^ 64 → b ≤ length after → Wrote before 0 1 (l ∷ []) first → Gives R on 1 s l o t
+        → Wrote first 1 a ls middle → Shrinks R l t ls c u → Wrote middle a b ms after → Rounds R (members c) 0 (size c) u ms found w
+        → Logged R Fits on s before (record { verdict = 1; lines = b; core = found }) w sets after
+    searched {b = b} {found = found} h i w₁ g w₂ p w₃ q = logged (record { verdict = 1; lines = b; core = found }) h i (wrote-then (wrote-then w₁ w₂) w₃) (refl, refl) (clashes g p q)
 
-  -- the lines so far leave room for the rounds
-  pub room : {Fits : ℕ → Type 0} (law : Lawful R Fits) {c a : ℕ} {s t : S} {l : Line} {ls before after : List Line} → l .listed < 2 ^ 64 → l .verdict ≡ 1 → Right Fits l
-      → Wrote before 1 a ls after → Shrinks R l s ls c t → Rattle.bits.specs.Sets.Subset c (l .listed) × (Fits c → ⊥) × (a + 1 + 7 * size c ≤ 450)
-  room {Fits} law {c} {l = l} h v r w p =
-      let q = shrinks-law R Fits law p h (r .among v) (r .clash v) in
-      let m = size-most (l .listed) in
-      let b = q .2 in
-      let u = w .upto in (q .0, q .1, omega arith)
+    -- the lines so far leave room for the rounds
+    pub room : {c a : ℕ} {s t : S} {l : Line} {ls before after : List Line} → l .listed < 2 ^ 64 → l .verdict ≡ 1 → Right Fits l
+        → Wrote before 1 a ls after → Shrinks R l s ls c t → Subset c (l .listed) × (Fits c → ⊥) × (a + 1 + 7 * size c ≤ 450)
+    room {c} {l = l} h v r w p =
+        let q = shrinks-law R Fits law p h (r .among v) (r .clash v) in
+        let m = size-most (l .listed) in
+        let b = q .2 in
+        let u = w .upto in (q .0, q .1, omega arith)

@@ -183,7 +183,7 @@ pub fn fit<T: Runner<C>, C>(
     requires room { ⌜ Room (T·Runner .cells (now runner)) (now weights) (now work) (now sets) ⌝ }
     requires ready { ⌜ T·Runner .ready (now runner) on ⌝ }
     requires lines { ⌜ 450 ≤ length (now log) ⌝ }
-    ensures { λ f. ⌜ Logged (T·Runner .runs (now (runner .entry))) on (lasting (now (chooser .entry)) (now (weights .entry))) (now (log .entry))
+    ensures { λ f. ⌜ Logged (T·Runner .runs (now (runner .entry))) (T·Runner .fits (now (runner .entry))) on (lasting (now (chooser .entry)) (now (weights .entry))) (now (log .entry))
         f (lasting (now (chooser .exit)) (now (weights .exit))) (now (sets .exit)) (now (log .exit)) ⌝ }
 {
     let line = runner.run(chooser, weights, on, work, sets);

@@ -6,7 +6,11 @@ use native.Mathlib.Omega.{arith}
 use Rattle.bits.specs.Sets.{members, size}
 use Rattle.runs.specs.declared.line.Line.{Line}
 use Rattle.cores.specs.Core.{Outcome, Outcome.left, Outcome.core}
-use Rattle.cores.specs.Fit.{with-rule, Fixed, Gives, Shrinks, Shrinks.all, Shrinks.fewer, Halves, Halves.met, Halves.down, Halves.up, Rounds, Rounds.alone, Rounds.round, Fit, Fit.fills, Fit.clashes}
+use Rattle.cores.specs.Fit.{with-rule, Gives, Shrinks, Shrinks.all, Shrinks.fewer, Halves, Halves.met, Halves.down, Halves.up, Rounds, Rounds.alone, Rounds.round, Fit, Fit.fills, Fit.clashes}
+
+-- the runs follow from where they start: two that list the same from one state come to the same
+pub record Fixed {S O : Type 0} (R : S → Line → O → S → Type 0) : Type 0 where
+  pub same : {s t t′ : S} {l l′ : Line} {o o′ : O} → R s l o t → R s l′ o′ t′ → l .listed ≡ l′ .listed → (l ≡ l′) × (o ≡ o′) × (t ≡ t′)
 
 module _ {S O : Type 0} (R : S → Line → O → S → Type 0) (fixed : Fixed R) where
   gives-same : {a v v′ : ℕ} {s t t′ : S} {l l′ : Line} {o o′ : O} → Gives R a v s l o t → Gives R a v′ s l′ o′ t′ → (l ≡ l′) × (o ≡ o′) × (t ≡ t′)

@@ -23,10 +23,6 @@ pub record Lawful {S O : Type 0} (R : S → Line → O → S → Type 0) (Fits :
   pub right : {s t : S} {l : Line} {o : O} → R s l o t → Right Fits l
   pub less : (a b : ℕ) → Subset a b → Fits b → Fits a
 
--- the runs follow from where they start: two that list the same from one state come to the same
-pub record Fixed {S O : Type 0} (R : S → Line → O → S → Type 0) : Type 0 where
-  pub same : {s t t′ : S} {l l′ : Line} {o o′ : O} → R s l o t → R s l′ o′ t′ → l .listed ≡ l′ .listed → (l ≡ l′) × (o ≡ o′) × (t ≡ t′)
-
 module _ {S O : Type 0} (R : S → Line → O → S → Type 0) where
   -- a run that lists a, with the verdict v
   pub record Gives (a v : ℕ) (s : S) (l : Line) (o : O) (t : S) : Type 0 where

@@ -36,9 +36,10 @@ use Rattle.calls.specs.Promise.{Keeps}
 use Rattle.calls.specs.Runs.{start-of, starts, start-after, FitRuns, StepDone}
 use Rattle.calls.proofs.Fillings.{few-cells, few-rules}
 use Rattle.calls.proofs.Promising.{done-opens, stands-same, stands-changed, valid-next}
+use Rattle.opening.specs.Pins.{held}
 use Rattle.session.specs.declared.table.Table.{Table}
 use Rattle.session.specs.declared.session.Session.{Session}
-use Rattle.session.specs.Calls.{sheet-of, lasting-of, with-table, with-lasting, changed as table-changed, Changed, held, table-start, table-on, Solved, sizes-of, FitCalled}
+use Rattle.session.specs.Calls.{sheet-of, lasting-of, with-table, with-lasting, changed as table-changed, Changed, table-start, table-on, Solved, sizes-of, FitCalled}
 use Rattle.play.specs.Held.{Holds}
 
 -- ---- rules that are on, by the number of an answer
@@ -203,7 +204,7 @@ module _ {B C : Type 0} (meaning : B → BookMeaning) (k : Machine C) (s t : Ses
   pub made-fit : (h : List Did) (b a : Step) (r : Result Values Refusal) {W W′ F F′ : List ℕ} {L L′ : List Line} → b .call ≡ Fit → Holds (s .lengths .now) h (s .table) → a .call ≡ b .call
       → a .answer ≡ to-fit r → length W ≡ vec-len (b .buffers .work) → length L ≡ vec-len (b .buffers .log) → length F ≡ vec-len (b .buffers .filling)
       → W ≡ vec-items (b .buffers .work) → L ≡ vec-items (b .buffers .log) → F ≡ vec-items (b .buffers .filling)
-      → vec-items (a .buffers .work) ≡ W′ → vec-items (a .buffers .log) ≡ L′ → vec-items (a .buffers .filling) ≡ F′ → vec-len (a .buffers .work) ≡ vec-len (b .buffers .work)
+      → vec-items (a .buffers .work) ≡ W′ → vec-items (a .buffers .log) ≡ L′ → vec-items (a .buffers .filling) ≡ F′ → sizes (a .buffers) ≡ sizes (b .buffers)
       → FitCalled meaning k s W L F (to-fit r) t W′ L′ F′
       → Makes the-sheet (StepDone k the-sheet) h (lasting-of s) b a (lasting-of t) × Holds (s .lengths .now) (did a ∷ h) (t .table)
   made-fit h b a r {W} {W′} {F} {F′} {L} {L′} is holds call ans w l f ws ls fs aw al af room c =

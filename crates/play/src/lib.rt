@@ -14,10 +14,9 @@ use calls::step::Step;
 use choosers::chooser::Chooser;
 use network::book::RuleBook;
 use session::session::Session;
-use session::session::open;
 
 /// Makes one call.
-pub fn make<B: RuleBook, C: Chooser>(session: &mut Session<'_, B, C>, step: &mut Step)
+fn make<B: RuleBook, C: Chooser>(session: &mut Session<'_, B, C>, step: &mut Step)
     ensures sheet { λ _. ⌜ sheet-of (B·RuleBook .meaning) (now (session .exit)) ≡ sheet-of (B·RuleBook .meaning) (now (session .entry)) ⌝ }
     ensures book { λ _. ⌜ now (session .exit) .book ≡ now (session .entry) .book ⌝ }
     ensures makes { λ _. ⌜ ((h : List Did) → Holds (now (now (session .entry) .lengths)) h (now (session .entry) .table)
@@ -67,7 +66,7 @@ pub fn play<'a, B: RuleBook, C: Chooser>(
     ensures book { λ r. ⌜ r .book ≡ book ⌝ }
     ensures table { λ r. ⌜ Holds (now (lengths .entry)) (latest [] (now (steps .exit))) (r .table) ⌝ }
 {
-    let mut session = open(lengths, book, chooser);
+    let mut session = Session::new(lengths, book, chooser);
     make_all(&mut session, steps);
     session
 }

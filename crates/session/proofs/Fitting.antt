@@ -14,6 +14,7 @@ use Rattle.std.specs.declared.option.Option.the-variants.{Some, None}
 use Rattle.bits.specs.Sets.{In, Lowest}
 use Rattle.bits.proofs.Bits.{has-zero}
 use Rattle.network.specs.Book.{BookMeaning, Lawful}
+use Rattle.network.specs.Fillings.{Meetable}
 use Rattle.choosers.specs.Choice.{Machine, Naming}
 use Rattle.runs.specs.declared.line.Line.{Line}
 use Rattle.runs.specs.Law.{Ready, Fills}
@@ -28,9 +29,10 @@ use Rattle.calls.specs.Promise.{Keeps}
 use Rattle.calls.specs.Runs.{Ran, starts, Alone, Comes, FitRuns}
 use Rattle.calls.proofs.Fillings.{ready, starts-long, where-small}
 use Rattle.calls.proofs.Promising.{first-run}
+use Rattle.opening.specs.Pins.{held}
 use Rattle.session.specs.declared.session.Session.{Session}
-use Rattle.session.specs.Calls.{sheet-of, lasting-of, with-lasting, held, table-start, table-on, Solved}
-use Rattle.session.proofs.Starting.{Low}
+use Rattle.session.specs.Calls.{sheet-of, lasting-of, with-lasting, table-start, table-on, Solved}
+use Rattle.opening.proofs.Starting.{Low}
 
 -- a pin that is held is a place of its list
 held-place : (places : ℕ) (o : Option ℕ) (v : ℕ) → held places o ≡ Some v → v < places
@@ -72,7 +74,7 @@ module _ {B C : Type 0} (meaning : B → BookMeaning) (k : Machine C) (naming : 
   the-long = starts-long (s .lengths .now) (λ c. held (getD (s .lengths .now) c 0) (getD (s .table .pins) c None))
 
   module _ {start sets : List ℕ} {on : ℕ} {log log′ : List Line} {f : Values} {c : C} {w : List ℕ} (e : start ≡ the-start) (i : on ≡ the-on)
-      (p : Logged (Ran k (meaning (s .book)) start) on (lasting-of s) log f (lasting c w) sets log′) (same : length sets ≡ cells (sheet-of meaning s)) where
+      (p : Logged (Ran k (meaning (s .book)) start) (Meetable (meaning (s .book)) start) on (lasting-of s) log f (lasting c w) sets log′) (same : length sets ≡ cells (sheet-of meaning s)) where
     runs-are : Fit (Ran k (meaning (s .book)) the-start) the-on (lasting-of s) (take (f .lines) log′) (p .out) (lasting c w)
     runs-are = subst₂ (λ (x : List ℕ) (y : ℕ). Fit (Ran k (meaning (s .book)) x) y (lasting-of s) (take (f .lines) log′) (p .out) (lasting c w)) e i (p .runs)
 

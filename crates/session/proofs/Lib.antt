@@ -1,3 +1,2 @@
-pub mod Starting
 pub mod Changing
 pub mod Fitting

@@ -1,10 +1,9 @@
 -- What a session is, and what the single calls change. Assumes nothing.
 use mathlib.Core.Path.{_≡_}
 use mathlib.Core.Logic.{_≢_}
-use mathlib.Core.Bool.{Bool, true, false, cond}
+use mathlib.Core.Bool.{Bool, true, false}
 use mathlib.Core.List.{List}
 use Prim.Native.Nat.{ℕ, _<_}
-use lib.Dec.{ltb}
 use lib.ListN.{length, getD, set, replicate}
 use Rattle.std.specs.declared.option.Option.{Option}
 use Rattle.std.specs.declared.option.Option.the-variants.{Some, None}
@@ -21,6 +20,7 @@ use Rattle.calls.specs.Sheet.{Sheet, sheet, cells, Sizes, Judged}
 use Rattle.calls.specs.History.{set-where}
 use Rattle.calls.specs.Promise.{Keeps}
 use Rattle.calls.specs.Runs.{starts, FitRuns}
+use Rattle.opening.specs.Pins.{held}
 use Rattle.session.specs.declared.table.Table.{Table}
 use Rattle.session.specs.declared.session.Session.{Session}
 
@@ -60,11 +60,6 @@ pub record Changed {B C : Type 0} (meaning : B → BookMeaning) (call : Call) (s
   pub judged : (z : Sizes) → Judged (sheet-of meaning s) z call (said answer .number)
   pub refused : said answer .number ≢ 0 → t ≡ s
   pub done : said answer .number ≡ 0 → t ≡ with-table s (changed (s .table) call)
-
--- a pin, if it is a place of a list of that length
-abbrev pub held : ℕ → Option ℕ → Option ℕ
-held places None = None
-held places (Some v) = cond (ltb v places) (Some v) None
 
 -- what each cell starts with, and the rules that are on, by the table
 abbrev pub table-start : List ℕ → Table → List ℕ

@@ -8,15 +8,12 @@ ghost use Rattle.calls.specs.declared.call.Call.the-variants.{Pin, Free, Switch
 ghost use Rattle.calls.specs.declared.refusal.Refusal.{Refusal};
 ghost use Rattle.calls.specs.Answers.{to-change, to-fit};
 ghost use Rattle.calls.specs.Sheet.{Opens, Enough};
+ghost use Rattle.network.specs.Fillings.{Meetable};
 ghost use Rattle.runs.specs.Law.{Ready};
 ghost use Rattle.clash.specs.Running.{lasting};
 ghost use Rattle.clash.specs.Logged.{Logged};
 ghost use Rattle.calls.specs.Runs.{Ran};
 ghost use Rattle.session.specs.Calls.{sheet-of, sizes-of, Made, Changed, FitCalled, Solved};
-use crate::check::check;
-use crate::start::rules_on;
-use crate::start::set_starts;
-use crate::start::write_lowest;
 use crate::table::Table;
 use crate::task::Task;
 use crate::task::TaskRunner;
@@ -25,6 +22,10 @@ use choosers::chooser::Chooser;
 use clash::fitted::Fitted;
 use clash::search::fit;
 use network::book::RuleBook;
+use opening::check::check;
+use opening::start::rules_on;
+use opening::start::set_starts;
+use opening::start::write_lowest;
 use runs::line::Line;
 
 /// A session over the lists of some cells, given by their lengths, a rule book and a cell chooser.
@@ -42,7 +43,7 @@ fn are_enough(work: &[u64], log: &[Line], filling: &[u8]) -> bool
     work.len() >= 4096 && log.len() >= 450 && filling.len() >= 64
 }
 
-/// A Fit with the weights of 64 rules.
+/// A Fit with a weight for each of 64 rules: the array is lent as one, since of a part its length is not known.
 fn fit_weighted<B: RuleBook, C: Chooser>(
     task: &Task<'_, B>,
     chooser: &mut C,
@@ -56,31 +57,33 @@ fn fit_weighted<B: RuleBook, C: Chooser>(
     requires work { ⌜ 4096 ≤ length (now work) ⌝ }
     requires sets { ⌜ length (now sets) ≡ length (now (now task .start)) ⌝ }
     requires log { ⌜ 450 ≤ length (now log) ⌝ }
-    ensures { λ f. ⌜ Logged (Ran (C·Chooser .meaning) (B·RuleBook .meaning (now (now (task .entry) .book))) (now (now (task .entry) .start))) on (lasting (now (chooser .entry)) (now (weights .entry))) (now (log .entry))
+    ensures { λ f. ⌜ Logged (Ran (C·Chooser .meaning) (B·RuleBook .meaning (now (now (task .entry) .book))) (now (now (task .entry) .start))) (Meetable (B·RuleBook .meaning (now (now (task .entry) .book))) (now (now (task .entry) .start))) on (lasting (now (chooser .entry)) (now (weights .entry))) (now (log .entry))
         f (lasting (now (chooser .exit)) (now (weights .exit))) (now (sets .exit)) (now (log .exit)) ⌝ }
 {
     fit(task, chooser, weights, work, sets, on, log)
 }
 
-/// A session just made: no pins, every rule on, and 1 as the weight of each rule. It is shut where `check` refuses what it is made of.
-pub fn open<'a, B, C>(lengths: &'a [u8], book: B, chooser: C) -> Session<'a, B, C>
-    ensures { λ r. ⌜ Made (now (lengths .entry)) book chooser r ⌝ }
-{
-    let table = Table {
-        pins: [None; 64],
-        switches: [true; 64],
-        weights: [1; 64],
-    };
-    Session {
-        lengths,
-        book,
-        chooser,
-        table,
+impl<'a, B, C> Session<'a, B, C> {
+    /// A session just made: no pins, every rule on, and 1 as the weight of each rule. It is shut where `check` refuses what it is made of.
+    pub fn new(lengths: &'a [u8], book: B, chooser: C) -> Self
+        ensures { λ r. ⌜ Made (now (lengths .entry)) book chooser r ⌝ }
+    {
+        let table = Table {
+            pins: [None; 64],
+            switches: [true; 64],
+            weights: [1; 64],
+        };
+        Session {
+            lengths,
+            book,
+            chooser,
+            table,
+        }
     }
 }
 
 impl<B: RuleBook, C: Chooser> Session<'_, B, C> {
-    /// Refuses where the session is shut.
+    /// Refuses where the session is shut. That is worked out anew from the lists and the book at every call, so there is no flag that could say otherwise.
     fn opened(&self) -> Result<(), Refusal>
         ensures { λ r. ⌜ Cases r (λ _. Opens (sheet-of (B·RuleBook .meaning) (now (self .entry)))) (λ e. (e ≡ Refusal.Shut) × (Opens (sheet-of (B·RuleBook .meaning) (now (self .entry))) → ⊥)) ⌝ }
     {

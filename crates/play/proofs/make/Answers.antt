@@ -11,7 +11,7 @@ use Rattle.calls.specs.Answers.{to-change, to-fit}
 use denote.Ref.{RefT}
 use mathlib.Core.List.{List}
 use Rattle.calls.specs.Sheet.{sheet}
-use Rattle.calls.specs.Plays.{Untouched}
+use Rattle.calls.specs.Plays.{sizes, Untouched}
 use Rattle.session.specs.declared.session.Session.{Session}
 use Rattle.session.specs.Calls.{sheet-of, Changed, FitCalled}
 use Rattle.play.proofs.Making.{changed-kept, fit-kept, made-changed, made-fit}
@@ -75,6 +75,6 @@ returns g c =
                 (ap (λ (x : Step). vec-items (x .buffers .work)) (w .step-is) ∙ refilled-is (b .buffers .work) (w .fit .last .work) (w .fit .kept .work ∙ lw))
                 (ap (λ (x : Step). vec-items (x .buffers .log)) (w .step-is) ∙ refilled-is (b .buffers .log) (w .fit .last .log) (w .fit .kept .log ∙ ll))
                 (ap (λ (x : Step). vec-items (x .buffers .filling)) (w .step-is) ∙ refilled-is (b .buffers .filling) (w .fit .last .filling) (w .fit .kept .filling ∙ lf))
-                (ap (λ (x : Step). vec-len (x .buffers .work)) (w .step-is)) q;
+                (ap (λ (x : Step). sizes (x .buffers)) (w .step-is)) q;
           }
     ]

@@ -14,14 +14,14 @@ use Rattle.play.proofs.Playing.{holds-none}
 use Rattle.play.proofs.play.Needs as need
 
 pub make-all-requires : need.make-all-requires
-make-all-requires g c κs = let o = c .open-session .ensures in holds-none (c .open-session .result .lengths .now) (c .open-session .result .table) (o .pins) (o .switches)
+make-all-requires g c κs = let o = c .new-session .ensures in holds-none (c .new-session .result .lengths .now) (c .new-session .result .table) (o .pins) (o .switches)
 
 pub returns : need.returns
 returns g c =
     let meaning = g .B·RuleBook .meaning in
     let k = g .C·Chooser .meaning in
-    let o = c .open-session .ensures in
-    let made = c .open-session .result in
+    let o = c .new-session .ensures in
+    let made = c .new-session .result in
     let s = sheet (c .args .lengths .now) (meaning (c .args .book)) in
     let is : sheet-of meaning made ≡ s = ap₂ (λ (l : List ℕ) (b : g .B .Denot). sheet l (meaning b)) (o .lists) (o .book-is) in
     let last : lasting-of made ≡ fresh (c .args .chooser) = ap₂ lasting (o .chooser-is) (o .weights) in

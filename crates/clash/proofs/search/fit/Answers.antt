@@ -12,8 +12,11 @@ use Rattle.clash.proofs.search.fit.Needs as need
 
 pub returns-then-line-eq0 : need.returns-then-line-eq0
 returns-then-line-eq0 g c =
+    let k = g .T·Runner in
+    let p = c .args .runner .now in
     let m = c .run-line .result in
-    filled (g .T·Runner .runs (c .args .runner .now)) (simp length-set (omega (arith, c .pre .lines)))
+    let s : c .args .on < 2 ^ 64 = omega arith in
+    filled (k .runs p) (k .fits p) (k .laws p .lawful) s (simp length-set (omega (arith, c .pre .lines)))
     (wrote-more (c .args .log .now) (c .args .log .now) [] 0 0 m (omega (arith, c .pre .lines)) (wrote-none (c .args .log .now) 0))
     (record { run = c .run-line .ensures .steps; lists = c .run-line .ensures .lists; says = c .if-line-eq0 .taken })
 
@@ -46,7 +49,7 @@ rounds-found-requires g c κs =
     let v = says-one r (c .if-line-eq0 .left) in
     let s : m .listed < 2 ^ 64 = omega arith in
     let h = c .shrink-shrunk .ensures in
-    let q = room (k .runs p) (k .laws p .lawful) s v r (h .1) (h .2) in
+    let q = room (k .runs p) (k .fits p) (k .laws p .lawful) s v r (h .1) (h .2) in
     record {
       room = record {
         weighed = omega (arith, c .shrink-shrunk .kept .weights, c .run-line .kept .weights, c .pre .room .weighed);
@@ -67,6 +70,7 @@ returns g c =
     let v = says-one r (c .if-line-eq0 .left) in
     let h = c .shrink-shrunk .ensures in
     let i = c .rounds-found .ensures .steps in
-    searched (k .runs p) (c .rounds-found .ensures .inside)
+    let s : c .args .on < 2 ^ 64 = omega arith in
+    searched (k .runs p) (k .fits p) (k .laws p .lawful) s (c .rounds-found .ensures .inside)
     (wrote-more (c .args .log .now) (c .args .log .now) [] 0 0 m (omega (arith, c .pre .lines)) (wrote-none (c .args .log .now) 0))
     (record { run = c .run-line .ensures .steps; lists = c .run-line .ensures .lists; says = v }) (h .1) (h .2) (i .1) (i .2)

@@ -8,7 +8,7 @@ ghost use Rattle.std.specs.declared.option.Option.the-variants.{None};
 ghost use Rattle.bits.specs.Sets.{Lowest};
 ghost use Rattle.calls.specs.History.{set-where};
 ghost use Rattle.calls.specs.Runs.{start-of, starts};
-ghost use Rattle.session.specs.Calls.{held};
+ghost use Rattle.opening.specs.Pins.{held};
 use bits::lowest;
 use bits::only;
 use bits::with;

@@ -1,8 +1,8 @@
 use Prim.Native.Nat.{ℕ, _<_}
 use native.Mathlib.Omega.{arith}
 use lib.ListN.{length}
-use Rattle.session.proofs.Starting.{lowest-more}
-use Rattle.session.proofs.start.write_lowest.Needs as need
+use Rattle.opening.proofs.Starting.{lowest-more}
+use Rattle.opening.proofs.start.write_lowest.Needs as need
 
 pub loop-cell-again : need.loop-cell-again
 loop-cell-again c =

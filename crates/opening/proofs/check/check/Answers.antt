@@ -3,7 +3,7 @@ use Prim.Native.Nat.{ℕ, _<_, _≤_}
 use native.Mathlib.Omega.{arith}
 use Rattle.calls.specs.Sheet.{Checked, Checked.passes, Checked.lists, Checked.rules, Checked.missing}
 use Rattle.cores.proofs.SetFacts.{decides-not}
-use Rattle.session.proofs.check.check.Needs as need
+use Rattle.opening.proofs.check.check.Needs as need
 
 pub returns-then-not-are-listed : need.returns-then-not-are-listed
 returns-then-not-are-listed g c = lists (decides-not (c .are-listed .result) (c .are-listed .ensures) (c .if-not-are-listed .taken))

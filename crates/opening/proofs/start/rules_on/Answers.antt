@@ -4,9 +4,9 @@ use Prim.Native.Nat.{ℕ, _^_, _<_}
 use native.Mathlib.Omega.{arith}
 use lib.Bits.{bitOr}
 use lib.ListN.{getD}
-use Rattle.session.proofs.Starting.{where-on, where-off, where-none}
-use Rattle.session.proofs.start.rules_on.Needs as need
-use Rattle.session.proofs.start.rules_on.Needs.{then-switches-rule, else-switches-rule}
+use Rattle.opening.proofs.Starting.{where-on, where-off, where-none}
+use Rattle.opening.proofs.start.rules_on.Needs as need
+use Rattle.opening.proofs.start.rules_on.Needs.{then-switches-rule, else-switches-rule}
 
 pub loop-rule-holds : need.loop-rule-holds
 loop-rule-holds c = where-none (λ r. getD (c .args .switches .now) r false)

@@ -5,8 +5,8 @@ use lib.ListN.{length, getD}
 use Rattle.std.specs.declared.option.Option.the-variants.{None}
 use Rattle.std.proofs.shelf.Counted.{fill-by-all}
 use Rattle.calls.specs.Runs.{start-of}
-use Rattle.session.specs.Calls.{held}
-use Rattle.session.proofs.start.set_starts.Needs as need
+use Rattle.opening.specs.Pins.{held}
+use Rattle.opening.proofs.start.set_starts.Needs as need
 
 pub returns : need.returns
 returns c =
