@@ -1,0 +1,4 @@
+pub mod RunLaws
+pub mod Fillings
+pub mod Promising
+pub mod Following

@@ -1,0 +1,6 @@
+pub mod Answers
+pub mod Sheet
+pub mod History
+pub mod Plays
+pub mod Promise
+pub mod Runs

@@ -1,0 +1,2 @@
+pub mod LogFacts
+pub mod Steps

@@ -1,0 +1,3 @@
+pub mod SetFacts
+pub mod CoreLaw
+pub mod Unique
