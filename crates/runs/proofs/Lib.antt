@@ -6,3 +6,4 @@ pub mod Unique
 pub mod Chosen
 pub mod Running
 pub mod OneRun
+pub mod Starting

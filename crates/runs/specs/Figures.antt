@@ -32,6 +32,7 @@ share m listed sets weights c r = cond (in? listed r && joins? sets c (m .rule r
 abbrev pub degree-of : BookMeaning → ℕ → List ℕ → List ℕ → ℕ → ℕ
 degree-of m listed sets weights c = sum (map (share m listed sets weights c) (counting 0 (m .count)))
 
+-- the figure of the cell c
 abbrev pub figure-of : BookMeaning → ℕ → List ℕ → List ℕ → ℕ → Figure
 figure-of m listed sets weights c = record { places = size (left-at sets c); degree = degree-of m listed sets weights c }
 

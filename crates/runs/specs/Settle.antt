@@ -14,6 +14,7 @@ pub record State : Type 0 where
   pub used : ℕ
   pub weights : List ℕ
 
+-- a state of these parts
 abbrev pub state : List ℕ → ℕ → List ℕ → State
 state sets used weights = record { sets = sets; used = used; weights = weights }
 
@@ -58,29 +59,31 @@ marked used r = bitOr used (2 ^ r)
 abbrev pub weighed : ℕ → List ℕ → List ℕ
 weighed r weights = set weights r (min (getD weights r 0 + 1) 4294967295)
 
--- place v at position i of rule r is revised: a place without support is removed and the rule marked used, and another place remains there
+-- place v at position i of rule r is revised: it does not remain, or it has support, or it is removed and the rule marked used, while another place remains at the cell
 pub data Revises (m : BookMeaning) (r i : ℕ) : ℕ → State → State → Type 0 where
   absent : {v : ℕ} {s : State} → (Remains (s .sets) (cell-at m r i) v → ⊥) → Revises m r i v s s
   kept : {v : ℕ} {s : State} → Supported (m .rule r) i v (s .sets) → Revises m r i v s s
   removed : {v : ℕ} {s : State} → Lost m r i v (s .sets) → (Empty (out-of (s .sets) (cell-at m r i) v) (cell-at m r i) → ⊥)
       → Revises m r i v s (state (out-of (s .sets) (cell-at m r i) v) (marked (s .used) r) (s .weights))
 
--- or its removal empties the cell, and weighs
+-- place v at position i of rule r is removed, and that empties the cell: settling fails, and the rule weighs more
 pub data Empties (m : BookMeaning) (r i : ℕ) : ℕ → State → State → Type 0 where
   emptied : {v : ℕ} {s : State} → Lost m r i v (s .sets) → Empty (out-of (s .sets) (cell-at m r i) v) (cell-at m r i)
       → Empties m r i v s (state (out-of (s .sets) (cell-at m r i) v) (marked (s .used) r) (weighed r (s .weights)))
 
--- the places at position i of rule r, from the lowest; or up to the one whose removal empties the cell
+-- the places at position i of rule r are revised, from the lowest
 abbrev pub Position : BookMeaning → ℕ → ℕ → State → State → Type 0
 Position m r i s t = Turns (Revises m r i) 64 s t
 
+-- the same up to the place whose removal empties the cell
 abbrev pub PositionFails : BookMeaning → ℕ → ℕ → State → State → Type 0
 PositionFails m r i s t = (v : ℕ) × Stops (Revises m r i) (Empties m r i) 64 v s t
 
--- the positions of rule r in order; or up to the one that is emptied
+-- rule r is taken: its positions in order
 abbrev pub Takes : BookMeaning → ℕ → State → State → Type 0
 Takes m r s t = Turns (Position m r) (length (m .rule r .cells)) s t
 
+-- the same up to the position whose cell is emptied
 abbrev pub TakesFails : BookMeaning → ℕ → State → State → Type 0
 TakesFails m r s t = (i : ℕ) × Stops (Position m r) (PositionFails m r) (length (m .rule r .cells)) i s t
 
@@ -89,13 +92,15 @@ pub data Turn (m : BookMeaning) (listed r : ℕ) (s : State) : State → Type 0 
   unlisted : (In listed r → ⊥) → Turn m listed r s s
   taken : {t : State} → In listed r → Takes m r s t → Turn m listed r s t
 
+-- a listed rule's turn in which a cell is emptied
 abbrev pub TurnFails : BookMeaning → ℕ → ℕ → State → State → Type 0
 TurnFails m listed r s t = In listed r × TakesFails m r s t
 
--- a sweep: the listed rules in rising number; or up to the rule r, which empties a cell
+-- a sweep: the listed rules in rising number
 abbrev pub Sweep : BookMeaning → ℕ → State → State → Type 0
 Sweep m listed s t = Turns (Turn m listed) (m .count) s t
 
+-- a sweep up to the rule r, which empties a cell
 abbrev pub SweepFails : BookMeaning → ℕ → ℕ → State → State → Type 0
 SweepFails m listed r s t = Stops (Turn m listed) (TurnFails m listed) (m .count) r s t
 

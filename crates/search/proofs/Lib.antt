@@ -1,3 +1,2 @@
-pub mod Figuring
 pub mod Rooms
 pub mod Tries

@@ -1,5 +1,5 @@
 -- Tries, from what the code writes. Assumes nothing.
-use mathlib.Core.Path.{_≡_, refl, sym, ap, subst, subst₂, _∙_}
+use mathlib.Core.Path.{_≡_, refl, sym, ap, subst, subst₂, subst₃, _∙_}
 use mathlib.Core.Logic.{_≢_, _⊎_, inl, inr}
 use mathlib.Core.Bool.{Bool, true, false}
 use mathlib.Core.List.{List}
@@ -102,6 +102,10 @@ module _ {C : Type 0} {k : Machine C} {m : BookMeaning} {listed : ℕ} where
       → TryFails k m listed x (state sets used weights) c v y t → b ≡ out-of sets c v → Settles m listed (state b (t .used) (t .weights)) u
       → Explores k m listed y u found z w → Explores k m listed x (state sets used weights) found z w
   goes-on-with {t = t} {u = u} h f e p q = goes-on h f (subst (λ (z : List ℕ). Settles m listed (state z (t .used) (t .weights)) u) e p) q
+
+-- where two ways of a failed try meet: the values as the meet has them
+pub met-at : {s s′ w w′ : List ℕ} {u u′ : ℕ} → s′ ≡ s → u′ ≡ u → w′ ≡ w → state s′ u′ w′ ≡ state s u w
+met-at {s} {s′} {w} {w′} {u} {u′} p q r = subst₃ (λ (x : List ℕ) (y : ℕ) (z : List ℕ). state x y z ≡ state s u w) (sym p) (sym q) (sym r) refl
 
 -- ---- after a failed try: the sets from before it without its place
 module _ {m : BookMeaning} {sets : List ℕ} {weights work c v : ℕ} (a : Able m sets weights work) (k : Chosen sets c v) where

@@ -7,12 +7,12 @@ ghost use Rattle.network.specs.Book.{Remains};
 ghost use Rattle.runs.specs.Settle.{state, out-of};
 ghost use Rattle.runs.specs.Run.{Explores, TryStands, TryFails};
 ghost use Rattle.search.specs.Room.{Able};
-use crate::figures::choose;
 use bits::lowest;
 use bits::only;
 use bits::without;
 use choosers::chooser::Chooser;
 use choosers::chooser::Event;
+use figures::choose;
 use network::book::RuleBook;
 use settling::settle::settle;
 
@@ -53,20 +53,18 @@ fn attempt<B: RuleBook, C: Chooser>(
     ensures failed { λ r. ⌜ (r ≡ false → TryFails (C·Chooser .meaning) (B·RuleBook .meaning (now (book .entry))) listed (now (chooser .entry)) (state (now (sets .entry)) (now (used .entry)) (now (weights .entry))) (trial .cell) (trial .place) (now (chooser .exit)) (state (now (sets .exit)) (now (used .exit)) (now (weights .exit)))) ⌝ }
 {
     sets[trial.cell as usize] = only(trial.place);
-    if let Err(_) = settle(book, listed, sets, used, weights) {
-        chooser.tell(Event::Failed(trial.cell));
-        return false;
-    }
-    chooser.tell(Event::Stood(trial.cell));
-    if explore(book, chooser, listed, work, sets, used, weights) {
-        return true;
+    if let Ok(()) = settle(book, listed, sets, used, weights) {
+        chooser.tell(Event::Stood(trial.cell));
+        if explore(book, chooser, listed, work, sets, used, weights) {
+            return true;
+        }
     }
     chooser.tell(Event::Failed(trial.cell));
     false
 }
 
 /// From settled sets to a filling (true), or to none (false). Each try keeps the sets from before it in a frame of the work buffer.
-pub fn explore<B: RuleBook, C: Chooser>(
+pub(crate) fn explore<B: RuleBook, C: Chooser>(
     book: &B,
     chooser: &mut C,
     listed: u64,

@@ -1,4 +1,3 @@
-//! A run: settling and tries, to a filling or to none. Uses `bits`, `network`, `choosers`, `runs` and `settling`.
+//! A run: settling and tries, to a filling or to none. Uses `bits`, `network`, `choosers`, `runs`, `settling` and `figures`.
 pub mod explore;
-pub mod figures;
 pub mod run;

@@ -1,9 +1,10 @@
 //! Revisions: of a place, of the places at a position, and of a rule's positions.
 ghost use mathlib.Core.Path.{_≡_};
 ghost use mathlib.Core.List.{List};
-ghost use Prim.Native.Nat.{ℕ, _<_};
+ghost use Prim.Native.Nat.{ℕ, _-_, _<_, _≤_};
 ghost use lib.ListN.{length};
 ghost use Rattle.std.specs.Results.{Cases};
+ghost use Rattle.bits.specs.Sets.{In};
 ghost use Rattle.runs.specs.Settle.{cell-at, Revises, Empties, Position, PositionFails, Takes, TakesFails};
 ghost use Rattle.runs.specs.Law.{Suits};
 ghost use Rattle.settling.specs.Report.{Report, Leads, Spends};
@@ -23,19 +24,20 @@ fn revise_place<B: RuleBook>(
     book: &B,
     rule: u16,
     position: u8,
+    cell: u8,
     place: u8,
     sets: &mut [u64],
     used: &mut u64,
 ) -> Result<bool, Emptied>
     requires few { ⌜ rule < 64 ⌝ }
     requires small { ⌜ place < 64 ⌝ }
-    requires within { ⌜ cell-at (meaning (now book)) rule position < length (now sets) ⌝ }
+    requires there { ⌜ cell ≡ cell-at (meaning (now book)) rule position ⌝ }
+    requires within { ⌜ cell < length (now sets) ⌝ }
     ensures { λ r. ⌜ Cases r
         (λ removed. Leads (Revises (meaning (now (book .entry))) rule position place) (now (sets .entry)) (now (used .entry)) (now (sets .exit)) (now (used .exit)) × Report removed (now (sets .entry)) (now (sets .exit)))
         (λ e. (e .rule ≡ rule) × Spends (Empties (meaning (now (book .entry))) rule position place) rule (now (sets .entry)) (now (used .entry)) (now (sets .exit)) (now (used .exit))) ⌝ }
 {
-    let cell = book.cell(rule, position) as usize;
-    let left = sets[cell];
+    let left = sets[cell as usize];
     if !has(left, place) {
         return Ok(false);
     }
@@ -43,7 +45,7 @@ fn revise_place<B: RuleBook>(
         return Ok(false);
     }
     let rest = without(left, place);
-    sets[cell] = rest;
+    sets[cell as usize] = rest;
     *used = with(*used, rule as u8);
     if rest == 0 {
         return Err(Emptied { rule });
@@ -51,7 +53,16 @@ fn revise_place<B: RuleBook>(
     Ok(true)
 }
 
-/// The places at one position, from the lowest; says whether any was removed.
+/// One past the highest of a set of places, 0 where it is empty.
+fn past_highest(places: u64) -> u8
+    ensures few { λ r. ⌜ r ≤ 64 ⌝ }
+    ensures above { λ r. ⌜ ((v : ℕ) → r ≤ v → In places v → ⊥) ⌝ }
+    ensures highest { λ r. ⌜ (0 < r → In places (r - 1)) ⌝ }
+{
+    64 - places.leading_zeros() as u8
+}
+
+/// The places at one position, from the lowest; says whether any was removed. Those past the highest that remains are not looked at.
 fn revise_position<B: RuleBook>(
     book: &B,
     rule: u16,
@@ -65,15 +76,16 @@ fn revise_position<B: RuleBook>(
         (λ removed. Leads (Position (meaning (now (book .entry))) rule position) (now (sets .entry)) (now (used .entry)) (now (sets .exit)) (now (used .exit)) × Report removed (now (sets .entry)) (now (sets .exit)))
         (λ e. (e .rule ≡ rule) × Spends (PositionFails (meaning (now (book .entry))) rule position) rule (now (sets .entry)) (now (used .entry)) (now (sets .exit)) (now (used .exit))) ⌝ }
 {
+    let cell = book.cell(rule, position);
     let mut removed = false;
-    for place in 0..64 {
-        removed |= revise_place(book, rule, position, place, sets, used)?;
+    for place in 0..past_highest(sets[cell as usize]) {
+        removed |= revise_place(book, rule, position, cell, place, sets, used)?;
     }
     Ok(removed)
 }
 
 /// The positions of one rule, in order; says whether any place was removed.
-pub fn revise_rule<B: RuleBook>(
+pub(crate) fn revise_rule<B: RuleBook>(
     book: &B,
     rule: u16,
     sets: &mut [u64],

@@ -6,7 +6,9 @@ use native.Mathlib.Omega.{arith}
 use lib.ListN.{length, length-set, set}
 use Rattle.std.proofs.shelf.Tests.{false≢true, true≢false}
 use Rattle.network.specs.Book.{Remains}
-use Rattle.runs.specs.Run.{Explores.filled}
+use Rattle.choosers.specs.declared.chooser.Event.the-variants.{Failed}
+use Rattle.runs.specs.Settle.{State, state, out-of}
+use Rattle.runs.specs.Run.{Explores.filled, TryFails}
 use Rattle.runs.proofs.Chosen.{named-within}
 use Rattle.search.specs.Room.{Able}
 use Rattle.search.proofs.Rooms.{able-alone, frame-room}
@@ -24,8 +26,10 @@ use Rattle.search.proofs.Tries.{
   goes-on-with,
   able-out,
   able-settled,
+  met-at,
 }
 use Rattle.search.proofs.explore.+attempt+explore.Needs as need
+use Rattle.search.proofs.explore.+attempt+explore.Needs.{attempt-in-Ok·else-explore, attempt-in-rest}
 
 pub attempt-settle-requires : need.attempt-settle-requires
 attempt-settle-requires g t c κs =
@@ -33,31 +37,40 @@ attempt-settle-requires g t c κs =
     (sym (c .only .ensures .one (c .pre .small))) (c .pre .able) in
     record { suits = a .suits; full = a .full; weighted = a .weighted }
 
-pub attempt-returns-in-Err : need.attempt-returns-in-Err
-attempt-returns-in-Err g t c =
-    record { stood = λ e. absurd (false≢true e); failed = λ _. try-first (c .only .ensures .one (c .pre .small)) (c .tell .ensures) (c .in-Err .ensures tt .steps) }
-
 pub attempt-explore-requires : need.attempt-explore-requires
 attempt-explore-requires g t c κs within =
     let e = c .only .ensures .one (c .pre .small) in
     let a = subst (λ (x : ℕ). Able (g .B·RuleBook .meaning (c .args .book .now)) (set (c .args .sets .now) (c .args .trial .cell) x) (length (c .args .weights .now)) (length (c .args .work .now)))
     (sym e) (c .pre .able) in (
-      try-falls (c .args .sets .now) (c .settle .last .sets) (c .args .trial .cell) (c .args .trial .place) (c .only .result) t (c .measured) (c .pre .within) e (c .pre .open) (c .in-rest .ensures tt .less),
-      (within .0, (within .1, able-settled _ _ a (c .in-rest .ensures tt .law) (c .settle .kept .weights) refl)),
+      try-falls (c .args .sets .now) (c .settle .last .sets) (c .args .trial .cell) (c .args .trial .place) (c .only .result) t (c .measured) (c .pre .within) e (c .pre .open) (c .in-Ok .ensures tt .less),
+      (within .0, (within .1, able-settled _ _ a (c .in-Ok .ensures tt .law) (c .settle .kept .weights) refl)),
     )
 
 pub attempt-returns-then-explore : need.attempt-returns-then-explore
 attempt-returns-then-explore g t c =
     record {
-      stood = λ _. try-stands (c .only .ensures .one (c .pre .small)) (c .tell-2 .ensures) (c .in-rest .ensures tt .steps) (c .if-explore .ensures tt);
+      stood = λ _. try-stands (c .only .ensures .one (c .pre .small)) (c .tell .ensures) (c .in-Ok .ensures tt .steps) (c .if-explore .ensures tt);
       failed = λ e. absurd (true≢false e);
     }
 
 pub attempt-returns : need.attempt-returns
 attempt-returns g t c =
+    let m = g .B·RuleBook .meaning (c .args .book .now) in
+    let k = g .C·Chooser .meaning in
+    let s = state (c .args .sets .now) (c .args .used .now) (c .args .weights .now) in
+    let e = c .only .ensures .one (c .pre .small) in
     record {
-      stood = λ e. absurd (false≢true e);
-      failed = λ _. try-last (c .only .ensures .one (c .pre .small)) (c .tell-2 .ensures) (c .tell-3 .ensures) (c .in-rest .ensures tt .steps) (c .if-explore .ensures tt);
+      stood = λ q. absurd (false≢true q);
+      failed = λ _. elim (c .match-settle .came) [
+        | attempt-in-Ok·else-explore w ↦
+            subst (λ (x : State). TryFails k m (c .args .listed) (c .args .chooser .now) s (c .args .trial .cell) (c .args .trial .place) (c .tell-2 .last .self) x)
+            (sym (met-at (w .sets-is) (w .used-is) (w .weights-is)))
+            (try-last e (w .tell .ensures) (c .tell-2 .ensures ∙ ap (λ (x : g .C .Denot). k .told x (Failed (c .args .trial .cell))) (w .chooser-is)) (w .in-Ok .ensures tt .steps) (w .if-explore .ensures tt))
+        | attempt-in-rest w ↦
+            subst (λ (x : State). TryFails k m (c .args .listed) (c .args .chooser .now) s (c .args .trial .cell) (c .args .trial .place) (c .tell-2 .last .self) x)
+            (sym (met-at (w .sets-is) (w .used-is) (w .weights-is)))
+            (try-first e (c .tell-2 .ensures ∙ ap (λ (x : g .C .Denot). k .told x (Failed (c .args .trial .cell))) (w .chooser-is)) (w .in-rest .ensures tt .steps))
+      ];
     }
 
 pub explore-returns-then-cell : need.explore-returns-then-cell
@@ -123,7 +136,7 @@ explore-settle-requires g t c κs =
     let k = g .C·Chooser .meaning in
     let p = picked k (g .C·Chooser .laws) m (c .args .listed) (c .tries .chooser) (c .tries .sets) (c .tries .used) (c .tries .weights) (c .choose-cell .result) (c .lowest .result)
     (c .choose-cell .ensures) (c .if-cell .left) (c .lowest .ensures .some) in
-    let b = c .retreat .ensures ∙ ap (λ (x : List ℕ). Rattle.runs.specs.Settle.out-of x (c .choose-cell .result) (c .lowest .result)) (c .copy-from-slice .ensures .after) in
+    let b = c .retreat .ensures ∙ ap (λ (x : List ℕ). out-of x (c .choose-cell .result) (c .lowest .result)) (c .copy-from-slice .ensures .after) in
     let a = able-out (c .tries .inv .2) (p .known) (c .retreat .last .sets) (length (c .attempt .last .weights)) b (c .attempt .kept .weights ∙ c .tries .kept .weights) in
     record { suits = a .suits; full = a .full; weighted = a .weighted }
 
@@ -133,7 +146,7 @@ explore-returns-in-Err g t c =
     let k = g .C·Chooser .meaning in
     let p = picked k (g .C·Chooser .laws) m (c .args .listed) (c .tries .chooser) (c .tries .sets) (c .tries .used) (c .tries .weights) (c .choose-cell .result) (c .lowest .result)
     (c .choose-cell .ensures) (c .if-cell .left) (c .lowest .ensures .some) in
-    let b = c .retreat .ensures ∙ ap (λ (x : List ℕ). Rattle.runs.specs.Settle.out-of x (c .choose-cell .result) (c .lowest .result)) (c .copy-from-slice .ensures .after) in
+    let b = c .retreat .ensures ∙ ap (λ (x : List ℕ). out-of x (c .choose-cell .result) (c .lowest .result)) (c .copy-from-slice .ensures .after) in
     c .tries .inv .0 _ _ _ (fails-on (p .choice) (c .if-attempt .ensures tt .failed refl) b (c .in-Err .ensures tt .steps))
 
 pub explore-tries-less : need.explore-tries-less
@@ -142,7 +155,7 @@ explore-tries-less g t c =
     let k = g .C·Chooser .meaning in
     let p = picked k (g .C·Chooser .laws) m (c .args .listed) (c .tries .chooser) (c .tries .sets) (c .tries .used) (c .tries .weights) (c .choose-cell .result) (c .lowest .result)
     (c .choose-cell .ensures) (c .if-cell .left) (c .lowest .ensures .some) in
-    let b = c .retreat .ensures ∙ ap (λ (x : List ℕ). Rattle.runs.specs.Settle.out-of x (c .choose-cell .result) (c .lowest .result)) (c .copy-from-slice .ensures .after) in
+    let b = c .retreat .ensures ∙ ap (λ (x : List ℕ). out-of x (c .choose-cell .result) (c .lowest .result)) (c .copy-from-slice .ensures .after) in
     lt-of-le-of-lt (c .in-rest .ensures tt .less) (out-falls _ _ _ _ (p .known) b)
 
 pub explore-tries-again : need.explore-tries-again
@@ -151,7 +164,7 @@ explore-tries-again g t c =
     let k = g .C·Chooser .meaning in
     let p = picked k (g .C·Chooser .laws) m (c .args .listed) (c .tries .chooser) (c .tries .sets) (c .tries .used) (c .tries .weights) (c .choose-cell .result) (c .lowest .result)
     (c .choose-cell .ensures) (c .if-cell .left) (c .lowest .ensures .some) in
-    let b = c .retreat .ensures ∙ ap (λ (x : List ℕ). Rattle.runs.specs.Settle.out-of x (c .choose-cell .result) (c .lowest .result)) (c .copy-from-slice .ensures .after) in
+    let b = c .retreat .ensures ∙ ap (λ (x : List ℕ). out-of x (c .choose-cell .result) (c .lowest .result)) (c .copy-from-slice .ensures .after) in
     let a = able-out (c .tries .inv .2) (p .known) (c .retreat .last .sets) (length (c .attempt .last .weights)) b (c .attempt .kept .weights ∙ c .tries .kept .weights) in (
       λ found y u h. c .tries .inv .0 found y u (goes-on-with (p .choice) (c .if-attempt .ensures tt .failed refl) b (c .in-rest .ensures tt .steps) h),
       le-of-lt-le (c .in-rest .ensures tt .less) (out-falls _ _ _ _ (p .known) b) (c .tries .inv .1),

@@ -4,6 +4,7 @@ use Rattle.std.proofs.shelf.Results.{err-from-errBy}
 use Rattle.runs.specs.Settle.{Turns.none}
 use Rattle.runs.proofs.Turning.{turns-more}
 use Rattle.settling.proofs.Reports.{report-none, report-more, turns-all}
+use Rattle.settling.proofs.Revised.{past-all}
 use Rattle.settling.proofs.revise.revise_position.Needs as need
 
 pub loop-place-holds : need.loop-place-holds
@@ -21,4 +22,8 @@ returns-in-Break-removed g c =
     rw (p .1, p .2) (f .0, λ w. (c .loop-place .place, record { before = _; within = omega arith; first = c .loop-place .inv .0 w; last = f .1 w }))
 
 pub returns : need.returns
-returns g c = (λ w. turns-all _ _ (omega arith) (c .loop-place .inv .0 w), c .loop-place .inv .1)
+returns g c = (
+  λ w. past-all (c .cell-cell .result) (c .past-highest-place-end .result) (c .cell-cell .ensures) (c .pre .within) (c .past-highest-place-end .ensures .few) (c .past-highest-place-end .ensures .above)
+      (turns-all _ _ (omega arith) (c .loop-place .inv .0 w)),
+  c .loop-place .inv .1,
+)

@@ -3,7 +3,7 @@ use Prim.Native.Nat.{ℕ}
 use lib.ListN.{getD}
 use Rattle.choosers.specs.declared.chooser.Figure.{Figure}
 use Rattle.runs.proofs.MoreBits.{ones-size}
-use Rattle.search.proofs.figures.figure.Needs as need
+use Rattle.figures.proofs.figure.Needs as need
 
 abbrev figure : ℕ → ℕ → Figure
 figure places degree = record { places = places; degree = degree }

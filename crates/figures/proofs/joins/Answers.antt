@@ -1,9 +1,9 @@
 use mathlib.Core.Path.{_≡_, refl, sym, ap, _∙_}
 use mathlib.Core.Bool.{Bool, _&&_}
 use native.Mathlib.Omega.{arith}
-use Rattle.search.proofs.Figuring.{same-cell, other-cell, joins-is}
-use Rattle.search.proofs.figures.joins.Needs as need
-use Rattle.search.proofs.figures.joins.Needs.{then-other-cell, else-other-cell}
+use Rattle.figures.proofs.Figuring.{same-cell, other-cell, joins-is}
+use Rattle.figures.proofs.joins.Needs as need
+use Rattle.figures.proofs.joins.Needs.{then-other-cell, else-other-cell}
 
 pub loop-position-holds : need.loop-position-holds
 loop-position-holds g c = (refl, refl)

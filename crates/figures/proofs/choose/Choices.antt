@@ -3,7 +3,7 @@ use Prim.Native.Nat.{ℕ, _<_}
 use lib.ListN.{length, getD}
 use Rattle.choosers.specs.Choice.{no-figure}
 use Rattle.runs.specs.Figures.{figure-of}
-use Rattle.search.proofs.figures.choose.Given as given
+use Rattle.figures.proofs.choose.Given as given
 
 abbrev pub Inv-loop-cell : given.InvT-loop-cell
 Inv-loop-cell g l =

@@ -3,9 +3,9 @@ use mathlib.Core.Bool.{Bool, true, false, _&&_}
 use native.Mathlib.Omega.{arith}
 use Rattle.std.proofs.shelf.Tests.{and-left, and-right, ne-eqb}
 use Rattle.std.proofs.shelf.Ways.{not-from-decides}
-use Rattle.search.proofs.Figuring.{adds, passes}
-use Rattle.search.proofs.figures.degree.Needs as need
-use Rattle.search.proofs.figures.degree.Needs.{then-has·then-joins, else-has, else-has·by·then-has·else-joins, else-has·by·else-has}
+use Rattle.figures.proofs.Figuring.{adds, passes}
+use Rattle.figures.proofs.degree.Needs as need
+use Rattle.figures.proofs.degree.Needs.{then-has·then-joins, else-has, else-has·by·then-has·else-joins, else-has·by·else-has}
 
 pub loop-rule-again : need.loop-rule-again
 loop-rule-again g c =

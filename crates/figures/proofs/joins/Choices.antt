@@ -3,7 +3,7 @@ use mathlib.Core.Bool.{not, _&&_}
 use lib.Dec.{eqb}
 use lib.ListN.{take}
 use Rattle.runs.specs.Figures.{some?, open?}
-use Rattle.search.proofs.figures.joins.Given as given
+use Rattle.figures.proofs.joins.Given as given
 
 abbrev pub Inv-loop-position : given.InvT-loop-position
 Inv-loop-position g l =

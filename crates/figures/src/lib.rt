@@ -1,4 +1,4 @@
-//! What a chooser is given: how many places remain at each cell, and its weighted degree.
+//! What a chooser is given: how many places remain at each cell, and its weighted degree. Uses `bits`, `network`, `choosers` and `runs`.
 ghost use mathlib.Core.Path.{_≡_};
 ghost use Prim.Native.Nat.{ℕ, _^_, _<_, _≤_};
 ghost use lib.Dec.{ltb};

@@ -4,7 +4,7 @@ use Prim.Native.Nat.{_*_, _≤_}
 use Rattle.std.specs.Iters.{counting}
 use Rattle.std.specs.shelf.Lists.{sum}
 use Rattle.runs.specs.Figures.{share}
-use Rattle.search.proofs.figures.degree.Given as given
+use Rattle.figures.proofs.degree.Given as given
 
 abbrev pub Inv-loop-rule : given.InvT-loop-rule
 Inv-loop-rule g l =

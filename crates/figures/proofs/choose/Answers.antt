@@ -5,8 +5,8 @@ use native.Mathlib.Omega.{arith}
 use lib.ListN.{length, take, length-set}
 use Rattle.choosers.specs.declared.chooser.Figure.{Figure}
 use Rattle.runs.specs.Figures.{figure-of}
-use Rattle.search.proofs.Figuring.{figures-more, figures-all}
-use Rattle.search.proofs.figures.choose.Needs as need
+use Rattle.figures.proofs.Figuring.{figures-more, figures-all}
+use Rattle.figures.proofs.choose.Needs as need
 
 pub loop-cell-again : need.loop-cell-again
 loop-cell-again g c = (
