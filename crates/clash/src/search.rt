@@ -96,16 +96,16 @@ fn halve<T: Runner<C>, C>(
     let mut lines = from;
     while low < high {
         let middle = (low + high) / 2;
-        let line = runner.run(
+        let tried = runner.run(
             chooser,
             weights,
             round.found | first(round.candidates, middle),
             work,
             sets,
         );
-        log[lines] = line;
+        log[lines] = tried;
         lines += 1;
-        if line.verdict == 1 {
+        if tried.verdict == 1 {
             high = middle;
         } else {
             low = middle + 1;
@@ -144,10 +144,10 @@ fn rounds<T: Runner<C>, C>(
     let mut left = count(candidates);
     let mut lines = from;
     'rounds: loop {
-        let line = runner.run(chooser, weights, found, work, sets);
-        log[lines] = line;
+        let alone = runner.run(chooser, weights, found, work, sets);
+        log[lines] = alone;
         lines += 1;
-        if line.verdict == 1 {
+        if alone.verdict == 1 {
             return Found { lines, core: found };
         }
         let halved = halve(

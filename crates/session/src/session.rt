@@ -29,6 +29,7 @@ use opening::start::write_lowest;
 use runs::line::Line;
 
 /// A session over the lists of some cells, given by their lengths, a rule book and a cell chooser.
+#[derive(Drop)]
 pub struct Session<'a, B, C> {
     lengths: &'a [u8],
     book: B,

@@ -26,8 +26,8 @@ rounds-holds g c =
       c .count-left .ensures .most,
     )
 
-pub run-line-requires : need.run-line-requires
-run-line-requires g c κs =
+pub run-alone-requires : need.run-alone-requires
+run-alone-requires g c κs =
     let k = g .T·Runner in
     let d = c .args .candidates in
     record {
@@ -42,10 +42,10 @@ run-line-requires g c κs =
 pub index-log-lines : need.index-log-lines
 index-log-lines g c = omega (arith, c .rounds .inv .2, c .rounds .kept .log)
 
-pub returns-then-line-eq1 : need.returns-then-line-eq1
-returns-then-line-eq1 g c =
+pub returns-then-alone-eq1 : need.returns-then-alone-eq1
+returns-then-alone-eq1 g c =
     let k = g .T·Runner in
-    let m = c .run-line .result in
+    let m = c .run-alone .result in
     let i = c .rounds .inv in
     let e : c .count-left .result ≡ size (c .args .candidates) = c .count-left .ensures .is in
     record {
@@ -53,7 +53,7 @@ returns-then-line-eq1 g c =
       steps = (
         i .0 .0 ++ m ∷ [],
         wrote-more (c .args .log .now) (c .rounds .log) (i .0 .0) (c .args .from) (c .rounds .lines) m (omega (arith, i .2, c .rounds .kept .log)) (i .0 .1),
-        round-end (k .runs (c .args .runner .now)) (members (c .args .candidates)) (i .0 .0) e (record { run = c .run-line .ensures .steps; lists = c .run-line .ensures .lists; says = c .if-line-eq1 .taken }) (i .0 .2),
+        round-end (k .runs (c .args .runner .now)) (members (c .args .candidates)) (i .0 .0) e (record { run = c .run-alone .ensures .steps; lists = c .run-alone .ensures .lists; says = c .if-alone-eq1 .taken }) (i .0 .2),
       );
     }
 
@@ -63,14 +63,14 @@ halve-halved-requires g c κs =
     let p = c .args .runner .now in
     let d = c .args .candidates in
     let i = c .rounds .inv in
-    let r = k .laws p .lawful .right (c .run-line .ensures .steps) in
-    let f = subst (k .fits p) (c .run-line .ensures .lists) (r .fits (says-fits r (c .if-line-eq1 .left))) in
+    let r = k .laws p .lawful .right (c .run-alone .ensures .steps) in
+    let f = subst (k .fits p) (c .run-alone .ensures .lists) (r .fits (says-fits r (c .if-alone-eq1 .left))) in
     let some : 1 ≤ c .rounds .left = some-left (k .runs p) (k .fits p) (k .laws p .lawful) d (members d) (λ j h. member-has d j h .1) (members-subset d) (c .rounds .found) (c .rounds .left) (i .1) f in
     record {
       room = record {
-        weighed = omega (arith, c .run-line .kept .weights, c .rounds .kept .weights, c .pre .room .weighed);
-        free = omega (arith, c .run-line .kept .work, c .rounds .kept .work, c .pre .room .free);
-        same = c .run-line .kept .sets ∙ c .rounds .kept .sets ∙ c .pre .room .same;
+        weighed = omega (arith, c .run-alone .kept .weights, c .rounds .kept .weights, c .pre .room .weighed);
+        free = omega (arith, c .run-alone .kept .work, c .rounds .kept .work, c .pre .room .free);
+        same = c .run-alone .kept .sets ∙ c .rounds .kept .sets ∙ c .pre .room .same;
       };
       ready = λ j. k .laws p .part (with-first (c .rounds .found) j (members d)) d (first-among (k .runs p) (k .fits p) (k .laws p .lawful) d (members d) (λ q h. member-has d q h .1) (members-subset d) j (i .1)) (c .pre .ready);
       some = some;
@@ -86,13 +86,13 @@ rounds-again g c =
     let k = g .T·Runner in
     let p = c .args .runner .now in
     let d = c .args .candidates in
-    let m = c .run-line .result in
+    let m = c .run-alone .result in
     let i = c .rounds .inv in
     let h = c .halve-halved .ensures .steps in
     let j = c .halve-halved .result .place in
-    let r = k .laws p .lawful .right (c .run-line .ensures .steps) in
-    let says = says-fits r (c .if-line-eq1 .left) in
-    let f = subst (k .fits p) (c .run-line .ensures .lists) (r .fits says) in
+    let r = k .laws p .lawful .right (c .run-alone .ensures .steps) in
+    let says = says-fits r (c .if-alone-eq1 .left) in
+    let f = subst (k .fits p) (c .run-alone .ensures .lists) (r .fits says) in
     let most : c .rounds .left ≤ size d = i .1 .most in
     let lt : j - 1 < size d = omega (arith, c .halve-halved .ensures .least, c .halve-halved .ensures .most) in
     let is : c .nth .result ≡ getD (members d) (j - 1) 0 = c .nth .ensures ∙ nth-any d (j - 1) lt in
@@ -101,7 +101,7 @@ rounds-again g c =
       (
         (i .0 .0 ++ m ∷ []) ++ h .0,
         wrote-then (wrote-more (c .args .log .now) (c .rounds .log) (i .0 .0) (c .args .from) (c .rounds .lines) m (omega (arith, i .2, c .rounds .kept .log)) (i .0 .1)) (h .1),
-        round-more (k .runs p) (members d) (i .0 .0) (record { run = c .run-line .ensures .steps; lists = c .run-line .ensures .lists; says = says }) (h .2) e (i .0 .2),
+        round-more (k .runs p) (members d) (i .0 .0) (record { run = c .run-alone .ensures .steps; lists = c .run-alone .ensures .lists; says = says }) (h .2) e (i .0 .2),
       ),
       subst (λ (y : ℕ). Ahead (k .runs p) (k .fits p) (k .laws p .lawful) d (members d) y (j - 1)) e
           (halved (k .runs p) (k .fits p) (k .laws p .lawful) d (members d) (λ q l. member-has d q l .1) (members-subset d) (i .1) f (h .2)),
