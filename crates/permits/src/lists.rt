@@ -36,7 +36,8 @@ impl Lists {
         self.lengths.push(list.len() as u8)?;
         self.numbers.extend_from_slice(list)?;
         let end = self.numbers.len() + (64 - list.len());
-        self.numbers.resize(end, 0)
+        self.numbers.resize(end, 0)?;
+        Ok(())
     }
 }
 

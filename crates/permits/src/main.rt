@@ -56,3 +56,36 @@ fn main(rt: LibcRuntime) -> io::Result<()> {
     let out = answer(rt.alloc(), &lines)?;
     rt.stdout().write_all(&out)
 }
+
+#[cfg(test)]
+mod tests {
+    use std::alloc::Global;
+    use std::test::*;
+
+    // The text for a formula on one cell with the list 1, 2, 3.
+    fn on_three(heap: Global, formula: &[u8]) -> Result<Vec<u8>, Fail> {
+        let mut numbers = [0; 64];
+        numbers[0] = 1;
+        numbers[1] = 2;
+        numbers[2] = 3;
+        Ok(preview::preview(heap, &[3], &numbers, formula)?)
+    }
+
+    #[test]
+    fn never_true(rt: LibcRuntime) -> Result<(), Fail> {
+        let out = on_three(rt.alloc(), b"C0<>C0")?;
+        check(out.as_slice() == b"C0\n0 rows\n")
+    }
+
+    #[test]
+    fn no_cell(rt: LibcRuntime) -> Result<(), Fail> {
+        let out = on_three(rt.alloc(), b"1=1")?;
+        check(out.as_slice() == b"FAULT 9 0\n")
+    }
+
+    #[test]
+    fn leading_zero(rt: LibcRuntime) -> Result<(), Fail> {
+        let out = on_three(rt.alloc(), b"C0=07")?;
+        check(out.as_slice() == b"FAULT 6 4\n")
+    }
+}
