@@ -24,7 +24,7 @@ fn shift_by(number: i32, shift: Shift) -> i64
 }
 
 /// The number of a cell, 0 where it has none.
-fn number_of(cell: u8, numbers: &[i32]) -> i32
+pub fn number_of(cell: u8, numbers: &[i32]) -> i32
     ensures { λ r. ⌜ r ≡ getD (now (numbers .entry)) cell (pos 0) ⌝ }
 {
     let cell = cell as usize;
