@@ -1,11 +1,13 @@
 -- A grounded node stands for its tree. Assumes nothing.
-use mathlib.Core.Path.{_≡_, refl}
+use mathlib.Core.Path.{_≡_, refl, sym, ap, _∙_}
+use mathlib.Core.Logic.{⊎-elim}
 use mathlib.Core.Bool.{Bool, true, false, _&&_}
 use mathlib.Core.List.{List}
-use Prim.Native.Nat.{ℕ, zero, suc, _<_}
+use Prim.Native.Nat.{ℕ, zero, suc, _<_, _≤_}
+use native.Mathlib.Omega.{arith}
 use lib.Dec.{ltb}
 use lib.ListN.{length, getD}
-use Rattle.std.proofs.shelf.Tests.{and-parts, ltb-true, false≢true}
+use Rattle.std.proofs.shelf.Tests.{and-parts, ltb-true, le-ltb, cases-lt, false≢true}
 use Rattle.formulas.specs.declared.node.Node.{Node}
 use Rattle.formulas.specs.declared.node.Node.the-variants.{Free, Compare, Not, And, Or}
 use Rattle.formulas.specs.Layout.{Stands, Standing}
@@ -13,7 +15,7 @@ use Rattle.formula_book.specs.Trees.{node-tree, tree, node-grounded, grounded}
 
 -- a node whose children stand for their trees
 node-stands : (n : ℕ) (ns : List Node) → ((j : ℕ) → grounded n ns j ≡ true → Stands ns j (tree n ns j)) →
-  (i : ℕ) (x : Node) → getD ns i Free ≡ x → node-grounded (grounded n ns) i x ≡ true → Stands ns i (node-tree (tree n ns) x)
+    (i : ℕ) (x : Node) → getD ns i Free ≡ x → node-grounded (grounded n ns) i x ≡ true → Stands ns i (node-tree (tree n ns) x)
 node-stands n ns ih i Free e g = absurd (false≢true g)
 node-stands n ns ih i (Compare a o b) e g = e
 node-stands n ns ih i (Not j) e g =
@@ -36,3 +38,23 @@ grounded-stands (suc n) ns i e = node-stands n ns (grounded-stands n ns) i (getD
 
 pub rooted-standing : (ns : List Node) (i : ℕ) → i < length ns → grounded (suc i) ns i ≡ true → Standing ns i
 rooted-standing ns i h g = record { is = tree (suc i) ns i; stands = grounded-stands (suc i) ns i g; within = h }
+
+-- two tests after a comparison agree if they do where it holds
+below : (j i : ℕ) (a b : Bool) → (j < i → a ≡ b) → ltb j i && a ≡ ltb j i && b
+below j i a b same = ⊎-elim
+    (λ (l : j < i). ap (λ x. ltb j i && x) (same l))
+    (λ (l : i ≤ j). ap (λ t. t && a) (le-ltb j i l) ∙ sym (ap (λ t. t && b) (le-ltb j i l)))
+    (cases-lt j i)
+
+-- deep enough is deep enough
+node-deep : (g h : ℕ → Bool) (i : ℕ) → ((j : ℕ) → j < i → g j ≡ h j) → (x : Node) → node-grounded g i x ≡ node-grounded h i x
+node-deep g h i same Free = refl
+node-deep g h i same (Compare a o b) = refl
+node-deep g h i same (Not j) = below j i (g j) (h j) (same j)
+node-deep g h i same (And j k) = below j i _ _ (λ l. below k i _ _ (λ m. ap (λ x. x && g k) (same j l) ∙ ap (λ x. h j && x) (same k m)))
+node-deep g h i same (Or j k) = below j i _ _ (λ l. below k i _ _ (λ m. ap (λ x. x && g k) (same j l) ∙ ap (λ x. h j && x) (same k m)))
+
+pub deep : (n m : ℕ) (ns : List Node) (i : ℕ) → i < n → i < m → grounded n ns i ≡ grounded m ns i
+deep zero m ns i h k = absurd (omega arith)
+deep (suc n) zero ns i h k = absurd (omega arith)
+deep (suc n) (suc m) ns i h k = node-deep (grounded n ns) (grounded m ns) i (λ j l. deep n m ns j (omega arith) (omega arith)) (getD ns i Free)

@@ -7,6 +7,7 @@ use lib.Dec.{ltb}
 use lib.IntN.{ℤ, pos}
 use lib.ListN.{length, getD, set, replicate}
 use Rattle.std.specs.Iters.{counting}
+use Rattle.network.specs.Cells.{GoodCells}
 use Rattle.network.specs.Book.{Rule, BookMeaning}
 use Rattle.formulas.specs.declared.node.Node.{Node}
 use Rattle.formulas.specs.Truth.{truth}
@@ -59,12 +60,9 @@ rule-of l ns f = record { cells = cells-of f; permits = permits-of l ns f }
 abbrev pub formula-book : Lists → List Node → List Formula → BookMeaning
 formula-book l ns fs = record { count = length fs; rule = λ r. rule-of l ns (getD fs r no-formula) }
 
--- 1 to 4 cells, below 64 and different, and a root from which only nodes of a formula are met
+-- good cells, and a root from which only nodes of a formula are met
 pub record Fit (ns : List Node) (f : Formula) : Type 0 where
-  pub some : 1 ≤ f .width
-  pub few : f .width ≤ 4
-  pub small : (k : ℕ) → k < f .width → getD (f .cells) k 0 < 64
-  pub apart : (j k : ℕ) → j < k → k < f .width → getD (f .cells) j 0 ≡ getD (f .cells) k 0 → ⊥
+  pub good : GoodCells (f .width) (f .cells)
   pub inside : f .root < length ns
   pub rooted : grounded (suc (f .root)) ns (f .root) ≡ true
 

@@ -12,6 +12,9 @@ use Rattle.reader.specs.declared.formula.Formula.{Formula}
 use Rattle.formula_book.specs.Trees.{tree}
 use Rattle.formula_book.specs.Formulas.{Lists, assigned, cells-of}
 
+abbrev pub lists-of : List ℕ → List ℤ → Lists
+lists-of lengths numbers = record { lengths = lengths; numbers = numbers }
+
 -- a place that remains at its cell and is of its list; at position i it is place v
 pub record Tried (l : Lists) (sets : List ℕ) (i v cell k w : ℕ) : Type 0 where
   pub remains : Remains sets cell w

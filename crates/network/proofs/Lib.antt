@@ -1,2 +1,3 @@
 pub mod Books
 pub mod Meeting
+pub mod Seen

@@ -7,6 +7,7 @@ use lib.ListN.{length, getD}
 use lib.Dec.{eqb}
 use Rattle.std.specs.Iters.{counting}
 use Rattle.std.specs.shelf.Text.{sameBytes}
+use Rattle.network.specs.Cells.{GoodCells}
 use Rattle.network.specs.Book.{Rule, BookMeaning}
 use Rattle.rows.specs.declared.rule.Kind.{Kind}
 use Rattle.rows.specs.declared.rule.Kind.the-variants.{Permitted, Forbidden}
@@ -16,16 +17,9 @@ use Rattle.rows.specs.declared.rule.RowsRule.{RowsRule}
 abbrev pub no-rows : RowsRule
 no-rows = record { kind = Permitted; width = 0; cells = []; start = 0; count = 0 }
 
--- 1 to 4 cells, below 64 and different
-pub record GoodCells (rule : RowsRule) : Type 0 where
-  pub some : 1 ≤ rule .width
-  pub few : rule .width ≤ 4
-  pub small : (k : ℕ) → k < rule .width → getD (rule .cells) k 0 < 64
-  pub apart : (j k : ℕ) → j < k → k < rule .width → getD (rule .cells) j 0 ≡ getD (rule .cells) k 0 → ⊥
-
 -- good cells, and rows that end within so many bytes
 pub record Fit (rule : RowsRule) (bytes : ℕ) : Type 0 where
-  pub good : GoodCells rule
+  pub good : GoodCells (rule .width) (rule .cells)
   pub inside : rule .start + rule .count * rule .width ≤ bytes
 
 -- at most 65,535 rules, each of them fit

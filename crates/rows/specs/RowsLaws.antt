@@ -10,9 +10,10 @@ use lib.ListN.{length, getD}
 use Rattle.std.specs.Iters.{counting}
 use Rattle.std.proofs.shelf.Lists.{getD-past}
 use Rattle.std.proofs.shelf.Counted.{length-map-counting, getD-map-counting}
+use Rattle.network.specs.Cells.{GoodCells}
 use Rattle.network.specs.Book.{Lawful, Sound}
 use Rattle.rows.specs.declared.rule.RowsRule.{RowsRule}
-use Rattle.rows.specs.Rows.{GoodCells, WellFormed, rule-of, rows-book, no-rows}
+use Rattle.rows.specs.Rows.{WellFormed, rule-of, rows-book, no-rows}
 
 -- what a book holds as its ghost field, taken out
 pub well-formed : {rules : List RowsRule} {bytes : List ℕ} → ∥ WellFormed rules bytes ∥₁ → WellFormed rules bytes
@@ -36,7 +37,7 @@ module _ (bytes : List ℕ) (rule : RowsRule) where
   pub cell-of : (k d : ℕ) → k < rule .width → getD (rule-of bytes rule .cells) k d ≡ getD (rule .cells) k 0
   cell-of k d h = getD-map-counting (λ j. getD (rule .cells) j 0) 0 (rule .width) k k d h (omega arith)
 
-  sound : GoodCells rule → Sound (rule-of bytes rule)
+  sound : GoodCells (rule .width) (rule .cells) → Sound (rule-of bytes rule)
   sound good = record {
     some = rw width-of (good .some);
     few = rw width-of (good .few);

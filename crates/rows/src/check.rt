@@ -4,11 +4,10 @@ ghost use Prim.Native.Nat.{ℕ, _+_, _*_, _<_, _≤_};
 ghost use lib.ListN.{length, getD};
 ghost use mathlib.Core.List.{List, []};
 ghost use Rattle.std.specs.Orderings.{Decides};
-ghost use Rattle.rows.specs.Rows.{WellFormed, Fit, GoodCells, Permits, rows-book, no-rows};
+ghost use Rattle.rows.specs.Rows.{WellFormed, Fit, Permits, rows-book, no-rows};
 use crate::book::RowsBook;
 use crate::rule::RowsRule;
-use bits::has;
-use bits::with;
+use network::cells::are_good;
 
 impl<'a> RowsBook<'a> {
     /// The book of these stores, and the book without rules where they are not well formed.
@@ -44,23 +43,6 @@ pub fn is_well_formed(rules: &[RowsRule], bytes: &[u8]) -> bool
 fn is_fit(rule: &RowsRule, bytes: usize) -> bool
     ensures { λ r. ⌜ Decides r (Fit (now (rule .entry)) bytes) ⌝ }
 {
-    has_good_cells(rule) && rule.start as usize + rule.count as usize * rule.width as usize <= bytes
-}
-
-/// Whether there are 1 to 4 cells, below 64 and different.
-fn has_good_cells(rule: &RowsRule) -> bool
-    ensures { λ r. ⌜ Decides r (GoodCells (now (rule .entry))) ⌝ }
-{
-    if rule.width < 1 || rule.width > 4 {
-        return false;
-    }
-    let mut seen = 0;
-    for position in 0..rule.width {
-        let cell = rule.cells[position as usize];
-        if cell >= 64 || has(seen, cell) {
-            return false;
-        }
-        seen = with(seen, cell);
-    }
-    true
+    are_good(rule.width, rule.cells)
+        && rule.start as usize + rule.count as usize * rule.width as usize <= bytes
 }
