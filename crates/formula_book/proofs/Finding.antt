@@ -32,8 +32,10 @@ module _ (l : Lists) (ns : List Node) (f : Formula) (sets : List ℕ) (i v : ℕ
     -- at the end the formula decides
     pub last-yes : n ≡ f .width → truth numbers (tree (suc (f .root)) ns (f .root)) ≡ true → Met l ns f sets i v numbers n
     last-yes e t = record {
-      rest = []; wide = omega arith; tried = λ k h. absurd (omega arith);
-      holds = ap (λ cs. truth (assigned l numbers cs []) (tree (suc (f .root)) ns (f .root))) (drop-all n (cells-of f) (omega (arith, width-of f))) ∙ t
+      rest = [];
+      wide = omega arith;
+      tried = λ k h. absurd (omega arith);
+      holds = ap (λ cs. truth (assigned l numbers cs []) (tree (suc (f .root)) ns (f .root))) (drop-all n (cells-of f) (omega (arith, width-of f))) ∙ t;
     }
 
     pub last-no : n ≡ f .width → Met l ns f sets i v numbers n → truth numbers (tree (suc (f .root)) ns (f .root)) ≡ true
@@ -42,11 +44,11 @@ module _ (l : Lists) (ns : List Node) (f : Formula) (sets : List ℕ) (i v : ℕ
     -- one more place
     pub step-yes : n < f .width → (w : ℕ) → Tried l sets i v (getD (f .cells) n 0) n w → Met l ns f sets i v (set numbers (getD (f .cells) n 0) (number-at l (getD (f .cells) n 0) w)) (n + 1) → Met l ns f sets i v numbers n
     step-yes h w t m = record {
-        rest = w ∷ m .rest;
-        wide = omega (arith, m .wide);
-        tried = go;
-        holds = ap (λ cs. truth (assigned l numbers cs (w ∷ m .rest)) (tree (suc (f .root)) ns (f .root))) (cells-more n h) ∙ m .holds
-      }
+      rest = w ∷ m .rest;
+      wide = omega (arith, m .wide);
+      tried = go;
+      holds = ap (λ cs. truth (assigned l numbers cs (w ∷ m .rest)) (tree (suc (f .root)) ns (f .root))) (cells-more n h) ∙ m .holds;
+    }
       where
         go : (k : ℕ) → k < length (w ∷ m .rest) → Tried l sets i v (getD (f .cells) (n + k) 0) (n + k) (getD (w ∷ m .rest) k 0)
         go zero q = let z : n ≡ n + 0 = omega arith in subst (λ x. Tried l sets i v (getD (f .cells) x 0) x w) z t
@@ -62,7 +64,7 @@ module _ (l : Lists) (ns : List Node) (f : Formula) (sets : List ℕ) (i v : ℕ
     step-no h m = go (m .rest) (m .wide) (m .tried) (m .holds)
       where
         go : (rest : List ℕ) → n + length rest ≡ f .width → ((k : ℕ) → k < length rest → Tried l sets i v (getD (f .cells) (n + k) 0) (n + k) (getD rest k 0))
-          → truth (assigned l numbers (drop n (cells-of f)) rest) (tree (suc (f .root)) ns (f .root)) ≡ true → Next
+            → truth (assigned l numbers (drop n (cells-of f)) rest) (tree (suc (f .root)) ns (f .root)) ≡ true → Next
         go [] w t e = absurd (omega arith)
         go (x ∷ rest) w t e = record {
           place = x;
@@ -71,8 +73,8 @@ module _ (l : Lists) (ns : List Node) (f : Formula) (sets : List ℕ) (i v : ℕ
             rest = rest;
             wide = omega arith;
             tried = λ k q. let z : n + suc k ≡ n + 1 + k = omega arith in subst (λ y. Tried l sets i v (getD (f .cells) y 0) y (getD rest k 0)) z (t (suc k) (omega arith));
-            holds = ap (λ cs. truth (assigned l numbers cs (x ∷ rest)) (tree (suc (f .root)) ns (f .root))) (sym (cells-more n h)) ∙ e
-          }
+            holds = ap (λ cs. truth (assigned l numbers cs (x ∷ rest)) (tree (suc (f .root)) ns (f .root))) (sym (cells-more n h)) ∙ e;
+          };
         }
 
   -- listed places, by position
@@ -96,18 +98,18 @@ module _ (l : Lists) (ns : List Node) (f : Formula) (sets : List ℕ) (i v : ℕ
       let w = width-of f in
       let wide : length (m .rest) ≡ length (cells-of f) = omega (arith, m .wide) in
       let t : (k : ℕ) → k < length (cells-of f) → Tried l sets i v (getD (cells-of f) k 255) k (getD (m .rest) k 64) =
-          λ k h.
-            let h′ : k < f .width = omega arith in
-            let z : 0 + k ≡ k = omega arith in
-            subst (λ x. Tried l sets i v (getD (cells-of f) k 255) k x) (getD-same (m .rest) k (omega arith))
-              (subst (λ c. Tried l sets i v c k (getD (m .rest) k 0)) (sym (cell-of f k 255 h′)) (subst (λ y. Tried l sets i v (getD (f .cells) y 0) y (getD (m .rest) k 0)) z (m .tried k (omega arith)))) in
+      λ k h.
+      let h′ : k < f .width = omega arith in
+      let z : 0 + k ≡ k = omega arith in
+      subst (λ x. Tried l sets i v (getD (cells-of f) k 255) k x) (getD-same (m .rest) k (omega arith))
+      (subst (λ c. Tried l sets i v c k (getD (m .rest) k 0)) (sym (cell-of f k 255 h′)) (subst (λ y. Tried l sets i v (getD (f .cells) y 0) y (getD (m .rest) k 0)) z (m .tried k (omega arith)))) in
       record {
         row = m .rest;
         wide = wide;
         within = omega arith;
         permitted = and-from (listed l (cells-of f) (m .rest)) _ (listed-from (cells-of f) (m .rest) wide (λ k h. t k h .listed)) (m .holds);
         here = t i (omega arith) .fixed refl;
-        remain = λ k h. t k h .remains
+        remain = λ k h. t k h .remains;
       }
 
   pub supported-no : Supported (rule-of l ns f) i v sets → Met l ns f sets i v unset 0
@@ -118,13 +120,15 @@ module _ (l : Lists) (ns : List Node) (f : Formula) (sets : List ℕ) (i v : ℕ
         rest = s .row;
         wide = omega (arith, s .wide);
         tried = λ k h.
-          let h′ : k < f .width = omega (arith, s .wide) in
-          let h″ : k < length (cells-of f) = omega (arith, s .wide) in
-          let z : k ≡ 0 + k = omega arith in
-          let t : Tried l sets i v (getD (cells-of f) k 255) k (getD (s .row) k 64) = record {
-              remains = s .remain k h″; listed = listed-each (cells-of f) (s .row) (p .0) k h″;
-              fixed = λ e. ap (λ x. getD (s .row) x 64) e ∙ s .here } in
-          subst (λ y. Tried l sets i v (getD (f .cells) y 0) y (getD (s .row) k 0)) z
+            let h′ : k < f .width = omega (arith, s .wide) in
+            let h″ : k < length (cells-of f) = omega (arith, s .wide) in
+            let z : k ≡ 0 + k = omega arith in
+            let t : Tried l sets i v (getD (cells-of f) k 255) k (getD (s .row) k 64) = record {
+              remains = s .remain k h″;
+              listed = listed-each (cells-of f) (s .row) (p .0) k h″;
+              fixed = λ e. ap (λ x. getD (s .row) x 64) e ∙ s .here;
+            } in
+            subst (λ y. Tried l sets i v (getD (f .cells) y 0) y (getD (s .row) k 0)) z
             (subst (λ x. Tried l sets i v (getD (f .cells) k 0) k x) (sym (getD-same (s .row) k h)) (subst (λ c. Tried l sets i v c k (getD (s .row) k 64)) (cell-of f k 255 h′) t));
-        holds = p .1
+        holds = p .1;
       }

@@ -15,7 +15,12 @@ fn number(flaw: Flaw) -> u8 {
 }
 
 /// Tries one formula.
-fn attempt(rt: &LibcRuntime, nodes: &mut [Node], cells: u8, formula: &[u8]) -> Result<(), AnyError> {
+fn attempt(
+    rt: &LibcRuntime,
+    nodes: &mut [Node],
+    cells: u8,
+    formula: &[u8],
+) -> Result<(), AnyError> {
     let mut used = 0;
     if nodes.len() > NODES || formula.len() > nodes.len() {
         return Err("too long".into());

@@ -46,21 +46,21 @@ adds-good {s} g (adds-list zs e q few h) = record {
   few-rules = g .few-rules;
   lists = each-append GoodList (s .lists) zs (g .lists) h;
   rows = each-none _ (s .rows) e;
-  formulas = each-none _ (s .formulas) q
+  formulas = each-none _ (s .formulas) q;
 }
 adds-good {s} g (adds-rows x q few h) = record {
   few-cells = g .few-cells;
   few-rules = omega (arith, length-append (s .rows) (x ∷ []));
   lists = g .lists;
   rows = each-append (GoodRows (s .lists)) (s .rows) x (g .rows) h;
-  formulas = g .formulas
+  formulas = g .formulas;
 }
 adds-good {s} g (adds-formula c few h) = record {
   few-cells = g .few-cells;
   few-rules = omega (arith, length-append (s .formulas) (c ∷ []));
   lists = g .lists;
   rows = g .rows;
-  formulas = each-append (GoodFormula (s .lists)) (s .formulas) c (g .formulas) h
+  formulas = each-append (GoodFormula (s .lists)) (s .formulas) c (g .formulas) h;
 }
 
 pub adds-fields : {s t : Sheet} {f : Field} → Adds s f t → fieldsOf t ≡ fieldsOf s ++ (f ∷ [])
@@ -70,7 +70,7 @@ adds-fields {s} (adds-list zs e q few h) =
     ∙ ap (λ (r : List Condition). (map cellField (s .lists) ++ (cellField zs ∷ [])) ++ map formulaField r) q
     ∙ append-nil _
     ∙ ap (λ l. l ++ (cellField zs ∷ [])) (sym (append-nil (map cellField (s .lists)))
-      ∙ ap (λ (r : List Condition). map cellField (s .lists) ++ map formulaField r) (sym q) ∙ ap (λ (r : List RowsField). map cellField (s .lists) ++ (map rowsField r ++ map formulaField (s .formulas))) (sym e))
+    ∙ ap (λ (r : List Condition). map cellField (s .lists) ++ map formulaField r) (sym q) ∙ ap (λ (r : List RowsField). map cellField (s .lists) ++ (map rowsField r ++ map formulaField (s .formulas))) (sym e))
 adds-fields {s} (adds-rows x q few h) =
     ap (λ l. map cellField (s .lists) ++ (l ++ map formulaField (s .formulas))) (map-append rowsField (s .rows) (x ∷ []))
     ∙ ap (λ (r : List Condition). map cellField (s .lists) ++ ((map rowsField (s .rows) ++ (rowsField x ∷ [])) ++ map formulaField r)) q

@@ -52,22 +52,22 @@ from-lists : (a b : List (List ℤ)) → length a + length b ≤ 64 → Each Goo
 from-lists a [] h g = subst (λ l. From (record { lists = a; rows = []; formulas = [] }) [] (record { lists = l; rows = []; formulas = [] })) (sym (append-nil a)) none
 from-lists a (z ∷ b) h g =
     more (adds-list z refl refl (omega arith) (g .0))
-      (subst (λ l. From (record { lists = a ++ (z ∷ []); rows = []; formulas = [] }) (map cellField b) (record { lists = l; rows = []; formulas = [] })) (append-assoc a (z ∷ []) b)
-        (from-lists (a ++ (z ∷ [])) b (omega (arith, length-append a (z ∷ []))) (g .1)))
+    (subst (λ l. From (record { lists = a ++ (z ∷ []); rows = []; formulas = [] }) (map cellField b) (record { lists = l; rows = []; formulas = [] })) (append-assoc a (z ∷ []) b)
+    (from-lists (a ++ (z ∷ [])) b (omega (arith, length-append a (z ∷ []))) (g .1)))
 
 from-rows : (ls : List (List ℤ)) (a b : List RowsField) → length a + length b ≤ 64 → Each (GoodRows ls) b → From (record { lists = ls; rows = a; formulas = [] }) (map rowsField b) (record { lists = ls; rows = a ++ b; formulas = [] })
 from-rows ls a [] h g = subst (λ l. From (record { lists = ls; rows = a; formulas = [] }) [] (record { lists = ls; rows = l; formulas = [] })) (sym (append-nil a)) none
 from-rows ls a (x ∷ b) h g =
     more (adds-rows x refl (omega arith) (g .0))
-      (subst (λ l. From (record { lists = ls; rows = a ++ (x ∷ []); formulas = [] }) (map rowsField b) (record { lists = ls; rows = l; formulas = [] })) (append-assoc a (x ∷ []) b)
-        (from-rows ls (a ++ (x ∷ [])) b (omega (arith, length-append a (x ∷ []))) (g .1)))
+    (subst (λ l. From (record { lists = ls; rows = a ++ (x ∷ []); formulas = [] }) (map rowsField b) (record { lists = ls; rows = l; formulas = [] })) (append-assoc a (x ∷ []) b)
+    (from-rows ls (a ++ (x ∷ [])) b (omega (arith, length-append a (x ∷ []))) (g .1)))
 
 from-formulas : (ls : List (List ℤ)) (rs : List RowsField) (a b : List Condition) → length rs + (length a + length b) ≤ 64 → Each (GoodFormula ls) b → From (record { lists = ls; rows = rs; formulas = a }) (map formulaField b) (record { lists = ls; rows = rs; formulas = a ++ b })
 from-formulas ls rs a [] h g = subst (λ l. From (record { lists = ls; rows = rs; formulas = a }) [] (record { lists = ls; rows = rs; formulas = l })) (sym (append-nil a)) none
 from-formulas ls rs a (c ∷ b) h g =
     more (adds-formula c (omega arith) (g .0))
-      (subst (λ l. From (record { lists = ls; rows = rs; formulas = a ++ (c ∷ []) }) (map formulaField b) (record { lists = ls; rows = rs; formulas = l })) (append-assoc a (c ∷ []) b)
-        (from-formulas ls rs (a ++ (c ∷ [])) b (omega (arith, length-append a (c ∷ []))) (g .1)))
+    (subst (λ l. From (record { lists = ls; rows = rs; formulas = a ++ (c ∷ []) }) (map formulaField b) (record { lists = ls; rows = rs; formulas = l })) (append-assoc a (c ∷ []) b)
+    (from-formulas ls rs (a ++ (c ∷ [])) b (omega (arith, length-append a (c ∷ []))) (g .1)))
 
 pub good-from : (s : Sheet) → Good s → From empty (fieldsOf s) s
 good-from s g =
@@ -101,6 +101,7 @@ module _ (s t : Sheet) (g : Good s) (h : Good t) (p q : List ℕ) (e : bytesOf s
       left : (hs : List Field) → fieldsOf s ≡ fieldsOf t ++ hs → q ≡ joined fieldBytes hs ++ p → Compared
       left [] i j = same (fields-same s t g h (i ∙ append-nil (fieldsOf t))) (sym j)
       left (f ∷ hs) i j = let n = next-good t s f hs h g i in first-longer (n .0) f (joined fieldBytes hs ++ p) (n .1) (j ∙ append-assoc (fieldBytes f) (joined fieldBytes hs) p)
+
       right : (hs : List Field) → fieldsOf t ≡ fieldsOf s ++ hs → p ≡ joined fieldBytes hs ++ q → Compared
       right [] i j = same (fields-same s t g h (sym (append-nil (fieldsOf s)) ∙ sym i)) j
       right (f ∷ hs) i j = let n = next-good s t f hs g h i in second-longer (n .0) f (joined fieldBytes hs ++ q) (n .1) (j ∙ append-assoc (fieldBytes f) (joined fieldBytes hs) q)

@@ -41,12 +41,12 @@ joined-append (f ∷ fs) gs = ap (λ l. fieldBytes f ++ l) (joined-append fs gs)
 
 -- of two sequences of fields that the same bytes begin with, one begins with the other
 pub fields-split : (fs gs : List Field) (r t : List ℕ) → joined fieldBytes fs ++ r ≡ joined fieldBytes gs ++ t
-  → ((hs : List Field) × (fs ≡ gs ++ hs) × (t ≡ joined fieldBytes hs ++ r)) ⊎ ((hs : List Field) × (gs ≡ fs ++ hs) × (r ≡ joined fieldBytes hs ++ t))
+    → ((hs : List Field) × (fs ≡ gs ++ hs) × (t ≡ joined fieldBytes hs ++ r)) ⊎ ((hs : List Field) × (gs ≡ fs ++ hs) × (r ≡ joined fieldBytes hs ++ t))
 fields-split [] gs r t e = inr (gs, refl, e)
 fields-split (f ∷ fs) [] r t e = inl (f ∷ fs, refl, sym e)
 fields-split (f ∷ fs) (g ∷ gs) r t e =
     let e₁ : fieldBytes f ++ (joined fieldBytes fs ++ r) ≡ fieldBytes g ++ (joined fieldBytes gs ++ t) =
-        sym (append-assoc (fieldBytes f) (joined fieldBytes fs) r) ∙ e ∙ append-assoc (fieldBytes g) (joined fieldBytes gs) t in
+    sym (append-assoc (fieldBytes f) (joined fieldBytes fs) r) ∙ e ∙ append-assoc (fieldBytes g) (joined fieldBytes gs) t in
     let u = field-unique f g (joined fieldBytes fs ++ r) (joined fieldBytes gs ++ t) e₁ in
     ⊎-elim
     (λ q. inl (q .0, (λ i. u .0 i ∷ q .1 i), q .2))

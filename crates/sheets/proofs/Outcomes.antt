@@ -46,9 +46,9 @@ fits-from : (s : Sheet) (t : ℕ) → fits? s t ≡ true → Fits s t
 fits-from s t e = ⊎-elim
     (λ a. let p = and-parts _ _ a in let q = and-parts _ _ (p .1) in subst (Fits s) (sym (eqb-true t 1 (p .0))) (cell (null-true (s .rows) (q .0)) (null-true (s .formulas) (q .1))))
     (λ b. ⊎-elim
-      (λ a. let p = and-parts _ _ a in subst (Fits s) (sym (eqb-true t 2 (p .0))) (rows (null-true (s .formulas) (p .1))))
-      (λ c. ⊎-elim (λ a. subst (Fits s) (sym (eqb-true t 3 a)) formula) (λ a. subst (Fits s) (sym (eqb-true t 4 a)) end) (or-cases _ _ c))
-      (or-cases _ _ b))
+    (λ a. let p = and-parts _ _ a in subst (Fits s) (sym (eqb-true t 2 (p .0))) (rows (null-true (s .formulas) (p .1))))
+    (λ c. ⊎-elim (λ a. subst (Fits s) (sym (eqb-true t 3 a)) formula) (λ a. subst (Fits s) (sym (eqb-true t 4 a)) end) (or-cases _ _ c))
+    (or-cases _ _ b))
     (or-cases _ _ e)
 
 fits-false : (s : Sheet) (t : ℕ) → (Fits s t → ⊥) → fits? s t ≡ false
@@ -82,7 +82,7 @@ abbrev headed : Sheet → ℕ → ℕ → List ℕ → Outcome
 headed s k t [] = fixed (Cut k)
 headed s k t (h ∷ []) = fixed (Cut k)
 headed s k t (h ∷ l ∷ r) = cond (eqb t 4) (cond (eqb (h * 256 + l) 0) (ending k r) (fixed (Tag k)))
-  (cond (ltb (length r) (h * 256 + l)) (fixed (Cut k)) (cond (full? s t) (fixed (Many k)) (content t (take (h * 256 + l) r))))
+    (cond (ltb (length r) (h * 256 + l)) (fixed (Cut k)) (cond (full? s t) (fixed (Many k)) (content t (take (h * 256 + l) r))))
 
 abbrev outcome : Sheet → ℕ → List ℕ → Outcome
 outcome s k [] = fixed (Cut k)
@@ -92,7 +92,7 @@ outcome s k (t ∷ r) = cond (fits? s t) (headed s k t r) (fixed (Tag k))
 abbrev Says : Sheet → ℕ → Outcome → LoadFault → Type 0
 Says s k (fixed x) e = e ≡ x
 Says s k (content t c) e = ((t ≡ 1) × (e ≡ Rule (ListFault k))) ⊎ (((t ≡ 2) × (e ≡ Rule (RowsFault k)))
-  ⊎ ((t ≡ 3) × ((f : Flaw) × (j : ℕ) × First (length (s .lists)) c f j × (e ≡ Rule (InFormula (record { flaw = f; offset = k + 3 + j }))))))
+    ⊎ ((t ≡ 3) × ((f : Flaw) × (j : ℕ) × First (length (s .lists)) c f j × (e ≡ Rule (InFormula (record { flaw = f; offset = k + 3 + j }))))))
 
 says-unique : (s : Sheet) (k : ℕ) (o : Outcome) (e e′ : LoadFault) → Says s k o e → Says s k o e′ → e ≡ e′
 says-unique s k (fixed x) e e′ p q = p ∙ sym q
@@ -100,12 +100,12 @@ says-unique s k (content t c) e e′ p q =
     ⊎-elim
     (λ a. ⊎-elim (λ b. a .1 ∙ sym (b .1)) (λ b. ⊎-elim (λ x. absurd (omega (arith, a .0, x .0))) (λ x. absurd (omega (arith, a .0, x .0))) b) q)
     (λ a. ⊎-elim
-      (λ x. ⊎-elim (λ b. absurd (omega (arith, x .0, b .0))) (λ b. ⊎-elim (λ y. x .1 ∙ sym (y .1)) (λ y. absurd (omega (arith, x .0, y .0))) b) q)
-      (λ x. ⊎-elim (λ b. absurd (omega (arith, x .0, b .0))) (λ b. ⊎-elim (λ y. absurd (omega (arith, x .0, y .0))) (λ y. formulas x y) b) q) a)
+    (λ x. ⊎-elim (λ b. absurd (omega (arith, x .0, b .0))) (λ b. ⊎-elim (λ y. x .1 ∙ sym (y .1)) (λ y. absurd (omega (arith, x .0, y .0))) b) q)
+    (λ x. ⊎-elim (λ b. absurd (omega (arith, x .0, b .0))) (λ b. ⊎-elim (λ y. absurd (omega (arith, x .0, y .0))) (λ y. formulas x y) b) q) a)
     p
   where
     formulas : (t ≡ 3) × ((f : Flaw) × (j : ℕ) × First (length (s .lists)) c f j × (e ≡ Rule (InFormula (record { flaw = f; offset = k + 3 + j }))))
-      → (t ≡ 3) × ((f : Flaw) × (j : ℕ) × First (length (s .lists)) c f j × (e′ ≡ Rule (InFormula (record { flaw = f; offset = k + 3 + j })))) → e ≡ e′
+        → (t ≡ 3) × ((f : Flaw) × (j : ℕ) × First (length (s .lists)) c f j × (e′ ≡ Rule (InFormula (record { flaw = f; offset = k + 3 + j })))) → e ≡ e′
     formulas x y =
         let u = first-unique (x .1 .0) (y .1 .0) (x .1 .1) (y .1 .1) (x .1 .2) (y .1 .2) in
         x .1 .3 ∙ (λ i. Rule (InFormula (record { flaw = u .0 i; offset = k + 3 + u .1 i }))) ∙ sym (y .1 .3)
@@ -149,7 +149,7 @@ refused-unique file e e′ a b = go (compared (a .before) (b .before) (a .good) 
     go : Compared (a .before) (b .before) (a .good) (b .good) _ _ (sym (a .said) ∙ b .said) → e ≡ e′
     go (same i j) =
         let w : Wrong (b .before) (length (Rattle.sheets.specs.Sheet.bytesOf (b .before))) (b .rest) e =
-            subst (λ r. Wrong (b .before) (length (Rattle.sheets.specs.Sheet.bytesOf (b .before))) r e) j (subst (λ (s : Sheet). Wrong s (length (Rattle.sheets.specs.Sheet.bytesOf s)) (a .rest) e) i (a .wrong)) in
+        subst (λ r. Wrong (b .before) (length (Rattle.sheets.specs.Sheet.bytesOf (b .before))) r e) j (subst (λ (s : Sheet). Wrong s (length (Rattle.sheets.specs.Sheet.bytesOf s)) (a .rest) e) i (a .wrong)) in
         says-unique (b .before) _ (outcome (b .before) _ (b .rest)) e e′ (wrong-says (b .before) _ (b .rest) e w) (wrong-says (b .before) _ (b .rest) e′ (b .wrong))
     go (first-longer u f r x i) = absurd (good-not-wrong (b .good .few-cells) x r i (b .wrong))
     go (second-longer u f r x i) = absurd (good-not-wrong (a .good .few-cells) x r i (a .wrong))
