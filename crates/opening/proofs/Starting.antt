@@ -13,9 +13,10 @@ use Rattle.std.specs.shelf.Lists.{kept-by}
 use Rattle.std.proofs.shelf.Elements.{kept-by-append}
 use Rattle.std.proofs.shelf.Lists.{append-nil, drop-set-lt, getD-set-same, getD-set-other}
 use Rattle.std.proofs.shelf.Tests.{cases-eq, cond-true, cond-false}
-use Rattle.bits.specs.Sets.{Lowest, setOf}
+use Rattle.bits.specs.Sets.{setOf}
 use Rattle.cores.proofs.SetFacts.{set-push}
 use Rattle.calls.specs.History.{set-where}
+use Rattle.opening.specs.Pins.{LowestByte}
 
 counting-push : (a n : ℕ) → counting a (suc n) ≡ counting a n ++ (a + n) ∷ []
 counting-push a zero = ap (λ (x : ℕ). x ∷ []) (let e : a ≡ a + 0 = omega arith in e)
@@ -36,19 +37,14 @@ pub where-none : (p : ℕ → Bool) → 0 ≡ set-where p 0
 unfolding setOf
 where-none p = refl
 
--- a byte that is the lowest place of a set, and a place
-abbrev pub Low : ℕ → ℕ → Type 0
-Low s v = Lowest s v × (v < 64)
-
 -- one more byte
-pub lowest-more : (sets filling filling₀ : List ℕ) (n v : ℕ) → n < length sets → n < length filling → (getD sets n 0 ≢ 0 → Low (getD sets n 0) v)
-    → ((k : ℕ) → k < n → getD sets k 0 ≢ 0 → Low (getD sets k 0) (getD filling k 0)) × (drop (length sets) filling ≡ drop (length sets) filling₀)
-    → ((k : ℕ) → k < n + 1 → getD sets k 0 ≢ 0 → Low (getD sets k 0) (getD (set filling n v) k 0)) × (drop (length sets) (set filling n v) ≡ drop (length sets) filling₀)
+pub lowest-more : (sets filling filling₀ : List ℕ) (n v : ℕ) → n < length sets → n < length filling → LowestByte (getD sets n 0) v
+    → ((k : ℕ) → k < n → LowestByte (getD sets k 0) (getD filling k 0)) × (drop (length sets) filling ≡ drop (length sets) filling₀)
+    → ((k : ℕ) → k < n + 1 → LowestByte (getD sets k 0) (getD (set filling n v) k 0)) × (drop (length sets) (set filling n v) ≡ drop (length sets) filling₀)
 lowest-more sets filling filling₀ n v ls lf low i = (
-  λ k lt ne. elim (cases-eq k n) [
-    | inl e ↦ subst (λ (x : ℕ). getD sets x 0 ≢ 0 → Low (getD sets x 0) (getD (set filling n v) x 0)) (sym e)
-        (λ some. subst (Low (getD sets n 0)) (sym (getD-set-same filling n v 0 lf)) (low some)) ne
-    | inr other ↦ subst (Low (getD sets k 0)) (sym (getD-set-other filling n k v 0 other)) (i .0 k (omega arith) ne)
+  λ k lt. elim (cases-eq k n) [
+    | inl e ↦ subst (λ (x : ℕ). LowestByte (getD sets x 0) (getD (set filling n v) x 0)) (sym e) (subst (LowestByte (getD sets n 0)) (sym (getD-set-same filling n v 0 lf)) low)
+    | inr other ↦ subst (LowestByte (getD sets k 0)) (sym (getD-set-other filling n k v 0 other)) (i .0 k (omega arith))
   ],
   drop-set-lt (length sets) filling n v ls ∙ i .1,
 )

@@ -1,14 +1,12 @@
 //! What a Fit starts from, and what it leaves.
 ghost use mathlib.Core.Path.{_≡_};
-ghost use mathlib.Core.Logic.{_≢_};
 ghost use mathlib.Core.Bool.{false};
 ghost use Prim.Native.Nat.{ℕ, _-_, _^_, _<_, _≤_};
 ghost use lib.ListN.{length, getD, drop};
 ghost use Rattle.std.specs.declared.option.Option.the-variants.{None};
-ghost use Rattle.bits.specs.Sets.{Lowest};
 ghost use Rattle.calls.specs.History.{set-where};
 ghost use Rattle.calls.specs.Runs.{start-of, starts};
-ghost use Rattle.opening.specs.Pins.{held};
+ghost use Rattle.opening.specs.Pins.{held, LowestByte};
 use bits::lowest;
 use bits::only;
 use bits::with;
@@ -68,10 +66,10 @@ pub fn rules_on(switches: &[bool; 64], count: u16) -> u64
     on
 }
 
-/// Writes the lowest place of each set, one byte a cell.
+/// Writes the lowest place of each set, one byte a cell; 64 where a set is empty.
 pub fn write_lowest(sets: &[u64], filling: &mut [u8])
     requires { ⌜ length (now sets) ≤ length (now filling) ⌝ }
-    ensures places { λ _. ⌜ ((c : ℕ) → c < length (now (sets .entry)) → getD (now (sets .entry)) c 0 ≢ 0 → Lowest (getD (now (sets .entry)) c 0) (getD (now (filling .exit)) c 0) × (getD (now (filling .exit)) c 0 < 64)) ⌝ }
+    ensures places { λ _. ⌜ ((c : ℕ) → c < length (now (sets .entry)) → LowestByte (getD (now (sets .entry)) c 0) (getD (now (filling .exit)) c 0)) ⌝ }
     ensures later { λ _. ⌜ drop (length (now (sets .entry))) (now (filling .exit)) ≡ drop (length (now (sets .entry))) (now (filling .entry)) ⌝ }
 {
     for cell in 0..sets.len() {

@@ -1,6 +1,5 @@
 -- From the runs of a Fit to what it returns. Assumes nothing.
 use mathlib.Core.Path.{_≡_, refl, sym, ap, subst, subst₂, _∙_}
-use mathlib.Core.Logic.{_≢_}
 use mathlib.Core.Bool.{Bool, true, false, cond}
 use mathlib.Core.List.{List}
 use Prim.Native.Nat.{ℕ, _<_, _≤_, _/_, _%_, _^_}
@@ -11,7 +10,7 @@ use Rattle.std.proofs.shelf.Lists.{ext-getD, getD-take, length-take-le}
 use Rattle.std.proofs.shelf.Tests.{ltb-true}
 use Rattle.std.specs.declared.option.Option.{Option}
 use Rattle.std.specs.declared.option.Option.the-variants.{Some, None}
-use Rattle.bits.specs.Sets.{In, Lowest}
+use Rattle.bits.specs.Sets.{In}
 use Rattle.bits.proofs.Bits.{has-zero}
 use Rattle.network.specs.Book.{BookMeaning, Lawful}
 use Rattle.network.specs.Fillings.{Meetable}
@@ -29,10 +28,9 @@ use Rattle.calls.specs.Promise.{Keeps}
 use Rattle.calls.specs.Runs.{Ran, starts, Alone, Comes, FitRuns}
 use Rattle.calls.proofs.Fillings.{ready, starts-long, where-small}
 use Rattle.calls.proofs.Promising.{first-run}
-use Rattle.opening.specs.Pins.{held}
+use Rattle.opening.specs.Pins.{held, LowestByte}
 use Rattle.session.specs.declared.session.Session.{Session}
 use Rattle.session.specs.Calls.{sheet-of, lasting-of, with-lasting, table-start, table-on, Solved}
-use Rattle.opening.proofs.Starting.{Low}
 
 -- a pin that is held is a place of its list
 held-place : (places : ℕ) (o : Option ℕ) (v : ℕ) → held places o ≡ Some v → v < places
@@ -48,13 +46,13 @@ held-valid lengths pins = record { listed = λ c v lt e. held-place (getD length
 
 -- the lowest places of the sets that a run left are its filling
 lowest-filling : {m : BookMeaning} {start sets : List ℕ} {on : ℕ} (bytes : List ℕ) → Fills m start on sets → length sets ≤ length bytes
-    → ((c : ℕ) → c < length sets → getD sets c 0 ≢ 0 → Low (getD sets c 0) (getD bytes c 0)) → Alone sets (take (length sets) bytes)
+    → ((c : ℕ) → c < length sets → LowestByte (getD sets c 0) (getD bytes c 0)) → Alone sets (take (length sets) bytes)
 lowest-filling {sets = sets} bytes p room low =
     let wide : length (take (length sets) bytes) ≡ length sets = length-take-le (length sets) bytes room in
     let e : p .filling ≡ take (length sets) bytes = ext-getD 0 (p .filling) (take (length sets) bytes) (p .left .long ∙ sym wide) (λ c lt.
     let l : c < length sets = let a = p .left .long in omega arith in
     let r = p .left .each c l in
-    let q = low c l (λ z. has-zero (getD (p .filling) c 0) (subst (λ (x : ℕ). In x (getD (p .filling) c 0)) z (r .1))) in
+    let q = low c l .some (λ z. has-zero (getD (p .filling) c 0) (subst (λ (x : ℕ). In x (getD (p .filling) c 0)) z (r .1))) in
     sym (getD-take (length sets) bytes c 0 l ∙ p .only c (getD bytes c 0) (q .1, q .0 .there))) in
     subst (Alone sets) e (record { there = p .left; only = p .only })
 
@@ -78,7 +76,7 @@ module _ {B C : Type 0} (meaning : B → BookMeaning) (k : Machine C) (naming : 
     runs-are : Fit (Ran k (meaning (s .book)) the-start) the-on (lasting-of s) (take (f .lines) log′) (p .out) (lasting c w)
     runs-are = subst₂ (λ (x : List ℕ) (y : ℕ). Fit (Ran k (meaning (s .book)) x) y (lasting-of s) (take (f .lines) log′) (p .out) (lasting c w)) e i (p .runs)
 
-    comes-filled : (bytes : List ℕ) → length sets ≤ length bytes → ((c : ℕ) → c < length sets → getD sets c 0 ≢ 0 → Low (getD sets c 0) (getD bytes c 0))
+    comes-filled : (bytes : List ℕ) → length sets ≤ length bytes → ((c : ℕ) → c < length sets → LowestByte (getD sets c 0) (getD bytes c 0))
         → (out : Outcome (List ℕ)) → Fit (Ran k (meaning (s .book)) the-start) the-on (lasting-of s) (take (f .lines) log′) out (lasting c w) → Answers out f sets
         → Comes out f (take (length the-start) bytes)
     comes-filled bytes room low (left o) r a =
@@ -87,7 +85,7 @@ module _ {B C : Type 0} (meaning : B → BookMeaning) (k : Machine C) (naming : 
     comes-filled bytes room low (core d) r a = a
 
     pub solved-filled : (filling bytes : List ℕ) → f .verdict ≡ 0 → length sets ≤ length bytes
-        → ((c : ℕ) → c < length sets → getD sets c 0 ≢ 0 → Low (getD sets c 0) (getD bytes c 0)) → drop (length sets) bytes ≡ drop (length sets) filling
+        → ((c : ℕ) → c < length sets → LowestByte (getD sets c 0) (getD bytes c 0)) → drop (length sets) bytes ≡ drop (length sets) filling
         → Solved meaning k s log filling f (with-lasting s (lasting c w)) log′ bytes
     solved-filled filling bytes v room low later = record {
       kept = refl;
