@@ -1,2 +1,3 @@
 pub mod Grounds
 pub mod Finding
+pub mod Cells

@@ -27,12 +27,16 @@ abbrev pub tree : ℕ → List Node → ℕ → Condition
 tree zero ns i = nothing
 tree (suc n) ns i = node-tree (tree n ns) (getD ns i Free)
 
+-- a child has a smaller number than its parent i, and g holds of it
+abbrev pub child : (ℕ → Bool) → ℕ → ℕ → Bool
+child g i j = ltb j i && g j
+
 abbrev pub node-grounded : (ℕ → Bool) → ℕ → Node → Bool
 node-grounded g i Free = false
 node-grounded g i (Compare a o b) = true
-node-grounded g i (Not j) = ltb j i && g j
-node-grounded g i (And j k) = ltb j i && (ltb k i && (g j && g k))
-node-grounded g i (Or j k) = ltb j i && (ltb k i && (g j && g k))
+node-grounded g i (Not j) = child g i j
+node-grounded g i (And j k) = child g i j && child g i k
+node-grounded g i (Or j k) = child g i j && child g i k
 
 -- no free node is met from node i, and every child has a smaller number than its parent
 abbrev pub grounded : ℕ → List Node → ℕ → Bool
