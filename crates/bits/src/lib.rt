@@ -1,4 +1,6 @@
 //! Sets of numbers below 64, of places or of rules, as 64-bit masks. Uses nothing but std.
+#![tactic(auto)]
+
 ghost use Rattle.std.specs.Prelude.{◌≡◌, ℕ, ◌-◌, ◌/◌, ◌%◌, ◌^◌, ◌<◌, ◌≤◌, ◌≢◌, Decides, bit_or};
 ghost use Rattle.bits.specs.Sets.{In, Lowest, size};
 

@@ -1,4 +1,6 @@
 //! Cell choosers, known by their meaning: which open cell a run tries next. Uses nothing but std.
+#![tactic(auto)]
+
 pub mod chooser;
 pub mod fewest;
 pub mod last_conflict;

@@ -1,4 +1,6 @@
 //! From a clash to its core, by runs of anything that runs. Uses `bits`, `runs` and `cores`.
+#![tactic(auto)]
+
 pub mod fitted;
 pub mod masks;
 pub mod runner;

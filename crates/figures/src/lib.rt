@@ -1,4 +1,6 @@
 //! What a chooser is given: how many places remain at each cell, and its weighted degree. Uses `bits`, `network`, `choosers` and `runs`.
+#![tactic(auto)]
+
 ghost use Rattle.std.specs.Prelude.{◌≡◌, ℕ, ◌^◌, ◌<◌, ◌≤◌, length, nat_lt};
 ghost use Rattle.bits.specs.Sets.{size};
 ghost use Rattle.runs.specs.Figures.{joins?, degree_of, figure_of, figures_of};

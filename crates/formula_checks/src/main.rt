@@ -1,4 +1,6 @@
 //! Reads lines of a number of cells and a formula, and prints for each `read` or the formula's first fault, its number and its offset.
+#![tactic(auto)]
+
 use anyhow::anyhow;
 use formulas::node::Node;
 use reader::formula::{NODES, read};

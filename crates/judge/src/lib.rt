@@ -1,4 +1,6 @@
 //! The truth of stored formulas at the cells' numbers. Uses `formulas` only.
+#![tactic(auto)]
+
 ghost use Rattle.std.specs.Prelude.{◌≡◌, ℕ, ℤ, pos, slice_index_or};
 ghost use Rattle.formulas.specs.Tree.{Condition};
 ghost use Rattle.formulas.specs.Truth.{truth, related, worth, shifted};

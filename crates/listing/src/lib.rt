@@ -1,4 +1,6 @@
 //! The readable text of a sheet that was read, for a person. Uses `text`, `rows`, `sheets` and `sheet_books`.
+#![tactic(auto)]
+
 ghost use Rattle.std.specs.Prelude.{◌≡◌, ◌++◌, OnOk};
 ghost use Rattle.sheets.specs.Sheet.{Sheet, file_of};
 ghost use Rattle.sheets.specs.Stored.{held};

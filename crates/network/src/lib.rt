@@ -1,4 +1,6 @@
 //! Rule books, known by their meaning: what the search asks of a book, and books made of other books. Uses `bits` only.
+#![tactic(auto)]
+
 pub mod book;
 pub mod cells;
 pub mod joined;

@@ -1,4 +1,6 @@
 //! Reads cells' lists and a formula from standard input, and prints the rows that the formula permits. Uses `preview` and `text`.
+#![tactic(auto)]
+
 ghost use Rattle.std.specs.Prelude.{◌≡◌, [], ◌∷◌, ◌++◌, IfOk, codes};
 ghost use Rattle.formulas.specs.Tree.{numeral};
 

@@ -1,4 +1,6 @@
 //! Any sequence of calls on a session just made, with all that is promised of it. Uses `network`, `choosers`, `calls` and `session`.
+#![tactic(auto)]
+
 ghost use Rattle.std.specs.Prelude.{◌≡◌, List, [], ◌∷◌};
 ghost use Rattle.calls.specs.Sheet.{sheet};
 ghost use Rattle.calls.specs.History.{Did};

@@ -1,4 +1,6 @@
 //! Which rows a formula permits, as a text. Uses `formulas`, `reader`, `judge` and `text`.
+#![tactic(auto)]
+
 ghost use Rattle.std.specs.Prelude.{◌≡◌, ℕ, ◌≤◌, List, ◌++◌, length, IfOk, OnOk};
 ghost use Rattle.preview.specs.Preview.{Fit, Tells, Exactly};
 

@@ -1,4 +1,6 @@
 //! The text that tells a Fit's answer. Uses `bits`, `formulas` and `text`.
+#![tactic(auto)]
+
 ghost use Rattle.std.specs.Prelude.{◌≡◌, ℕ, ◌+◌, ◌*◌, ◌<◌, [], ◌++◌, get_or, pos, if◌then◌else◌, OnOk, slice_index, slice_index_or};
 ghost use Rattle.bits.specs.Sets.{in?};
 ghost use Rattle.report.specs.Report.{fault_text, cell_line, fits_text, rule_line, clash_text};

@@ -1,5 +1,7 @@
 //! A session: pins, switches and Fit over any rule book and any cell chooser, and any sequence of calls on it.
 //! Uses `bits`, `network`, `choosers`, `runs`, `search`, `cores`, `clash`, `calls` and `opening`.
+#![tactic(auto)]
+
 pub mod session;
 mod table;
 mod task;

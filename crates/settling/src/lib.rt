@@ -1,3 +1,5 @@
 //! Settling: places without support go, sweep after sweep, until none is left without or a cell is empty. Uses `bits`, `network` and `runs`.
+#![tactic(auto)]
+
 pub mod revise;
 pub mod settle;

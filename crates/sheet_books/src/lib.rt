@@ -1,4 +1,6 @@
 //! The rule books of a sheet that was read into the stores. Uses `network`, `rows`, `formula_book` and `sheets`.
+#![tactic(auto)]
+
 ghost use Rattle.std.specs.Prelude.{◌≡◌, map, length, take};
 ghost use Rattle.sheets.specs.Sheet.{Sheet};
 ghost use Rattle.sheets.specs.Stored.{held, rules_of};

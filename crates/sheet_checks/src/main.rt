@@ -1,4 +1,6 @@
 //! Prints the text of a small sheet, and what its books say of each place. The sheet is put into the stores by hand.
+#![tactic(auto)]
+
 use formulas::node::{Node, Relation, Shift, Side};
 use listing::listing;
 use network::book::RuleBook;

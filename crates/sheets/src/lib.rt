@@ -1,3 +1,5 @@
 //! Sheet files: what a sheet is, its bytes, the faults of a file, the stores that one is read into, and the theory of reading one. Uses `formulas`, `reader`, `rows` and `network`.
+#![tactic(auto)]
+
 pub mod fault;
 pub mod stores;

@@ -1,4 +1,6 @@
 //! Writes text into a vector of bytes. Uses `formulas` for what a number's text is.
+#![tactic(auto)]
+
 ghost use Rattle.std.specs.Prelude.{◌≡◌, ◌++◌, OnOk};
 ghost use Rattle.formulas.specs.Tree.{numeral, number_text};
 
