@@ -5,8 +5,8 @@ use Rattle.choosers.proofs.Choosing.{chosen}
 use Rattle.choosers.proofs.Orders.{lighter_ranks}
 use Rattle.choosers.proofs.weighted.WeightedChooser.choose.Goals as goal
 
-pub overflow-cast-best : goal.overflow-cast-best
-overflow-cast-best c = omega arith
+pub overflow_cast-best : goal.overflow_cast-best
+overflow_cast-best c = omega arith
 
 pub loop-cell-preserved : goal.loop-cell-preserved
 loop-cell-preserved c = (rw (add-one, ← c.loop-cell.invariant.0) (grind (arith, nat_tests)), grind arith)
