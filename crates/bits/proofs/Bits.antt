@@ -1,9 +1,9 @@
 -- Bits of a mask: what is there after a place is taken out, or a rule marked. Assumes nothing.
-use Rattle.std.proofs.Common.{◌≡◌, ℕ, zero, suc, ◌+◌, ◌-◌, ◌*◌, ◌/◌, ◌%◌, ◌^◌, ◌<◌, ◌≤◌, ◌≢◌, ◌⊎◌, List, [], ◌∷◌, length, get_or, set, sym, refl, ap, ◌∙◌, subst, ap₂, inl, inr, ⊎_elim, le_trans, mul-le-mul_right, one-mul, pow-suc, div-mul-le_self, arith, pow_pos, pow-add}
+use Rattle.std.proofs.Common.{◌≡◌, ℕ, zero, suc, ◌+◌, ◌-◌, ◌*◌, ◌/◌, ◌%◌, ◌^◌, ◌<◌, ◌≤◌, ◌≢◌, sym, refl, ap, ◌∙◌, ap₂, inl, inr, mul-le-mul_right, one-mul, pow-suc, div-mul-le_self, arith, pow_pos, pow-add}
 use native.Mathlib.Nat.{div-eq_of_lt, div_self, mul-div_cancel_left, mul-mod_left}
 use lib.Bits.{bit_and, bit_or, bit_xor, xor_shr, xor_mod, or_shr, or_mod, or_zero_r, and_shr, and_mod, and_zero_r, and_high, xor_add_and}
 use lib.Pow.{pow-lt}
-use Rattle.std.proofs.lemmas.Bool.{cases_order, cases_eq}
+use Rattle.std.proofs.lemmas.Bool.{cases_order}
 use Rattle.bits.specs.Sets.{In}
 
 -- the bits of a power

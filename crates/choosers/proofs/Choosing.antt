@@ -3,7 +3,7 @@ use Rattle.std.proofs.Common.{◌≡◌, ℕ, zero, suc, ◌<◌, Bool, true, fa
 use Rattle.std.proofs.lemmas.Bool.{cond_both, eqb-true, eqb-false, and_parts, and_cases, or_cases, or_parts, cases_Bool, both_ways, cases_lt}
 use Rattle.choosers.specs.declared.chooser.Figure.{Figure}
 use Rattle.choosers.specs.Choice.{Open, open?, figure}
-use Rattle.choosers.specs.Kinds.{pick, Best, Chosen}
+use Rattle.choosers.specs.Kinds.{pick, Chosen}
 use Rattle.choosers.specs.KindLaws.{open_true, open_false, open_below}
 
 -- the test tells what it stands for, and ranks the figures of open cells

@@ -1,8 +1,7 @@
 -- Fewer places, and a smaller quotient of places by weighted degree, rank the open cells. Assumes nothing.
-use Rattle.std.proofs.Common.{◌≡◌, ℕ, zero, suc, ◌*◌, ◌<◌, ◌≤◌, true, false, ltb, Decides, sym, refl, ap, ◌∙◌, inl, inr, ⊎_elim, mul-le-mul_right, mul-pos, mul-zero, mul_right_comm, le-mul_of_pos_right, le_of_mul-le-mul_right, arith}
+use Rattle.std.proofs.Common.{◌≡◌, ℕ, ◌*◌, ◌<◌, ◌≤◌, ap, ◌∙◌, inr, ⊎_elim, mul-le-mul_right, mul-pos, mul-zero, mul_right_comm, le-mul_of_pos_right, le_of_mul-le-mul_right, arith}
 use Rattle.std.proofs.lemmas.Bool.{ltb-true, ltb-false, lt-ltb, le-ltb, cases_lt}
 use Rattle.std.proofs.lemmas.Bool.Decides.{Decides-ltb}
-use Rattle.choosers.specs.declared.chooser.Figure.{Figure}
 use Rattle.choosers.specs.Kinds.{fewer, Fewer, lighter, Lighter}
 use Rattle.choosers.proofs.Choosing.{Ranking}
 

@@ -1,5 +1,5 @@
 -- What a rule book means, its laws, and when a place has support. Assumes nothing.
-use Rattle.std.specs.Prelude.{◌≡◌, ℕ, ◌+◌, ◌-◌, ◌<◌, ◌≤◌, min, Bool, true, false, cond, ◌&&◌, List, [], ◌∷◌, reverse, length, get_or, ◌≢◌, nat_lt, slice_index, slice_index_or}
+use Rattle.std.specs.Prelude.{◌≡◌, ℕ, ◌+◌, ◌-◌, ◌<◌, ◌≤◌, min, Bool, true, false, cond, ◌&&◌, List, [], reverse, length, get_or, ◌≢◌, nat_lt, slice_index, slice_index_or}
 use Rattle.bits.specs.Sets.{In}
 
 -- a rule: its cells in order, and the rows that it permits; a row has one place for each of these cells, in their order

@@ -1,5 +1,5 @@
 -- The cells that a rule may have. Assumes nothing.
-use Rattle.std.specs.Prelude.{◌≡◌, ℕ, ◌<◌, ◌≤◌, List, ◌≢◌, slice_index}
+use Rattle.std.specs.Prelude.{ℕ, ◌<◌, ◌≤◌, List, ◌≢◌, slice_index}
 
 -- the first of some stored cells: 1 to 4 of them, below 64 and different
 pub record GoodCells (width : ℕ) (cells : List ℕ) : Type 0 where

@@ -1,4 +1,3 @@
-use Rattle.std.proofs.Common.{get_or}
 use Rattle.std.proofs.lemmas.Bool.Decides.{not_from_Decides}
 use Rattle.network.proofs.Seen.{seen_none, seen_more}
 use Rattle.network.proofs.cells.are_good.Goals as goal
