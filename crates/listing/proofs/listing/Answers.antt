@@ -7,7 +7,7 @@ use Rattle.listing.proofs.listing.Goals as goal
 
 pub returns : goal.returns
 returns c =
-    made_so c.push-formulas.result
+    made_so c.push_formulas.result
     (λ wrote s h is.
     let all = held c.args.stores.now in
     let rules = c.rules-rules.result.now in
@@ -16,8 +16,8 @@ returns c =
     let cells = numbered (λ k n. cell_line k (list_in all.numbers k n)) 0 lengths in
     let rows = numbered (λ r rule. rows_line r (field_of all.places rule)) 0 rules in
     let formulas = formula_lines (length rules) (all_fields s) in
-    after (vec_items c.args.out.now) cells (rows ++ formulas) c.in-ok-push-cells.ensures
-    (after (vec_items c.push-cells.new.out) rows formulas c.in-ok-push-rules.ensures
+    after (vec_items c.args.out.now) cells (rows ++ formulas) c.in-ok-push_cells.ensures
+    (after (vec_items c.push_cells.new.out) rows formulas c.in-ok-push_rules.ensures
     (wrote (all_fields s) (few all c.args.extent s h rules are) (is ∙ file_fields s)))
     ∙ ap (λ x. vec_items c.args.out.now ++ x) (listing-same all c.args.extent s h rules are lengths (c.lengths.ensures.means s h)))
-    c.push-formulas.ensures
+    c.push_formulas.ensures

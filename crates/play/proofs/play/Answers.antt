@@ -10,8 +10,8 @@ use Rattle.play.specs.Held.{Holds, latest}
 use Rattle.play.proofs.Playing.{holds_none}
 use Rattle.play.proofs.play.Goals as goal
 
-pub make-all-requires : goal.make-all-requires
-make-all-requires g c = let o = c.new-session.ensures in holds_none c.new-session.result.lengths.now c.new-session.result.table o.pins o.switches
+pub make_all-requires : goal.make_all-requires
+make_all-requires g c = let o = c.new-session.ensures in holds_none c.new-session.result.lengths.now c.new-session.result.table o.pins o.switches
 
 pub returns : goal.returns
 returns g c =
@@ -22,13 +22,13 @@ returns g c =
     let s = sheet c.args.lengths.now (meaning c.args.book) in
     let is : sheet_of meaning made ≡ s = ap₂ (λ (l : List ℕ) (b : g.row.B.Denot). sheet l (meaning b)) o.lists o.book_is in
     let last : lasting_of made ≡ fresh c.args.chooser = ap₂ lasting o.chooser_is o.weights in
-    let p = subst₂ (λ (z : Sheet) (x : Lasting g.row.C.Denot). Plays z (StepDone k z) [] x c.args.steps.now c.make-all.new.steps (lasting_of c.make-all.new.session)) is last c.make-all.ensures.plays in
+    let p = subst₂ (λ (z : Sheet) (x : Lasting g.row.C.Denot). Plays z (StepDone k z) [] x c.args.steps.now c.make_all.new.steps (lasting_of c.make_all.new.session)) is last c.make_all.ensures.plays in
     let runs = plays_runs k s p in
     record {
       promise = plays_promise k g.C.Chooser.laws s (g.B.RuleBook.laws c.args.book) p;
       runs = runs;
       follows = plays_follow k s runs;
-      sheet = c.make-all.ensures.sheet ∙ is;
-      book = c.make-all.ensures.book ∙ o.book_is;
-      table = subst (λ (z : Sheet). Holds z.lengths (latest [] c.make-all.new.steps) c.make-all.new.session.table) is c.make-all.ensures.table;
+      sheet = c.make_all.ensures.sheet ∙ is;
+      book = c.make_all.ensures.book ∙ o.book_is;
+      table = subst (λ (z : Sheet). Holds z.lengths (latest [] c.make_all.new.steps) c.make_all.new.session.table) is c.make_all.ensures.table;
     }

@@ -15,4 +15,4 @@ returns-then-fitted-eq0 c =
     ap (λ l. fits_text f.lines c.args.cells (number l)) c.deref.ensures.value
     ∙ sym (cond-true (eqb f.verdict 0) (fits_text f.lines c.args.cells (number filling)) (clash_text f.lines f.core) (eq-eqb f.verdict 0 c.if-fitted-eq0.true))
     ∙ ap (answer_text c.args.cells (number filling)) (sym c.in-Fitted.is) in
-    made_so c.push-fits.result (λ e. e ∙ ap (λ l. out ++ l) text) c.push-fits.ensures
+    made_so c.push_fits.result (λ e. e ∙ ap (λ l. out ++ l) text) c.push_fits.ensures

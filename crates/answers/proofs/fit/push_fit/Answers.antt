@@ -12,16 +12,16 @@ use Rattle.answers.proofs.Telling.{opens_few, told}
 use Rattle.answers.proofs.fit.push_fit.Goals as goal
 
 pub returns-in-Err : goal.returns-in-Err
-returns-in-Err g c = made_so c.push-fault.result
+returns-in-Err g c = made_so c.push_fault.result
     (λ e. (
       _,
       e,
       subst (λ n. FitText usual usual_start (sheet c.args.lengths.now (g.B.RuleBook.meaning c.args.book)) (λ x v. get_or c.args.numbers.now (64 * x + v) (pos 0)) (fault_text n 0)) (sym c.number.ensures)
           (unopened c.in-Err.ensures (refused_not_done c.in-Err.refusal)),
-    )) c.push-fault.ensures
+    )) c.push_fault.ensures
 
-pub overflow-cast-cells : goal.overflow-cast-cells
-overflow-cast-cells g c = let f = opens_few (sheet c.args.lengths.now (g.B.RuleBook.meaning c.args.book)) c.in-default.ensures in search rules
+pub overflow_cast-cells : goal.overflow_cast-cells
+overflow_cast-cells g c = let f = opens_few (sheet c.args.lengths.now (g.B.RuleBook.meaning c.args.book)) c.in-default.ensures in search rules
 
 pub returns : goal.returns
 returns g c =
@@ -33,4 +33,4 @@ returns g c =
     let runs = subst (λ l. PlaysByRuns usual s [] (fresh usual_start) l after (lasting_of c.play.result)) c.requires.alone
     (subst (λ x. PlaysByRuns usual s [] (fresh x) c.args.steps.now after (lasting_of c.play.result)) c.new.ensures c.play.ensures.runs) in
     let text = told usual usual_start s number b after (lasting_of c.play.result) c.requires.call c.in-default.ensures c.requires.enough promise runs (get_or after 0 c.index-steps-0.result) (ap (get_or after 0) c.index-steps-0.is) in
-    made_so c.push-answer.result (λ e. (_, e, text)) c.push-answer.ensures
+    made_so c.push_answer.result (λ e. (_, e, text)) c.push_answer.ensures

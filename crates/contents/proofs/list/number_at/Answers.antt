@@ -8,7 +8,7 @@ pub returns : goal.returns
 returns c =
     let bytes = c.args.content.now in
     let i = c.args.at in
-    let f : SFits w32 c.from-be-bytes.result = search rules in
-    ap four_bytes (to_z-of_z w32 c.from-be-bytes.result f)
-    ∙ four_of (get_or bytes i 0) (get_or bytes (i + 1) 0) (get_or bytes (i + 2) 0) (get_or bytes (i + 3) 0) c.from-be-bytes.result (search rules) (search rules) (search rules) (search rules) c.from-be-bytes.ensures
+    let f : SFits w32 c.from_be_bytes.result = search rules in
+    ap four_bytes (to_z-of_z w32 c.from_be_bytes.result f)
+    ∙ four_of (get_or bytes i 0) (get_or bytes (i + 1) 0) (get_or bytes (i + 2) 0) (get_or bytes (i + 3) 0) c.from_be_bytes.result (search rules) (search rules) (search rules) (search rules) c.from_be_bytes.ensures
     ∙ sym (four_at bytes i c.requires)

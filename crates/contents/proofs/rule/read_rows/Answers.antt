@@ -17,22 +17,22 @@ returns-then-rest-width-ne0 c =
     elim c.then-rest-width-ne0.branch [
       | then-rest-width-ne0-via-then-rest-width-ne0 w ↦ part_of_row content lengths (length lengths) c.args.tag kind cells rest c.in-Some.ensures w.if-rest-width-ne0.true
       | then-rest-width-ne0-via-else-rest-width-ne0+then-not-are-rows w ↦
-          bad_row content lengths (length lengths) c.args.tag kind cells rest c.in-Some.ensures w.are-rows.result w.are-rows.ensures w.if-not-are-rows.true
+          bad_row content lengths (length lengths) c.args.tag kind cells rest c.in-Some.ensures w.are_rows.result w.are_rows.ensures w.if-not-are_rows.true
     ]
 
-pub slice-bounds-copy-from-slice-end : goal.slice-bounds-copy-from-slice-end
-slice-bounds-copy-from-slice-end c = omega (arith, (head_width c.args.content.now _ _ _ _ c.in-Some.ensures).1)
+pub slice_bounds-copy_from_slice-end : goal.slice_bounds-copy_from_slice-end
+slice_bounds-copy_from_slice-end c = omega (arith, (head_width c.args.content.now _ _ _ _ c.in-Some.ensures).1)
 
-pub slice-bounds-copy-from-slice-end-2 : goal.slice-bounds-copy-from-slice-end-2
-slice-bounds-copy-from-slice-end-2 c =
+pub slice_bounds-copy_from_slice-end-2 : goal.slice_bounds-copy_from_slice-end-2
+slice_bounds-copy_from_slice-end-2 c =
     sym (length-take-le (length c.in-Some.parts.rest.now) c.args.places.now (omega (arith, (head_width c.args.content.now _ _ _ _ c.in-Some.ensures).1)))
 
-pub copy-from-slice-requires : goal.copy-from-slice-requires
-copy-from-slice-requires c =
+pub copy_from_slice-requires : goal.copy_from_slice-requires
+copy_from_slice-requires c =
     length-take-le (length c.in-Some.parts.rest.now) c.args.places.now (omega (arith, (head_width c.args.content.now _ _ _ _ c.in-Some.ensures).1))
 
-pub overflow-cast-result-3 : goal.overflow-cast-result-3
-overflow-cast-result-3 c =
+pub overflow_cast-result-3 : goal.overflow_cast-result-3
+overflow_cast-result-3 c =
     let h = (head_width c.args.content.now _ _ _ _ c.in-Some.ensures).1 in
     let le = div-le_self (length c.in-Some.parts.rest.now) (length c.in-Some.parts.cells.now) in
     omega arith
@@ -45,6 +45,6 @@ returns c =
     let d = div-add-mod' (length rest) (length cells) in
     let long : length rest ≡ count * length cells = omega (arith, c.if-rest-width-ne0.false) in
     all_rows c.args.content.now c.args.lengths.now c.args.start c.args.places.now _ _ c.in-Some.parts.kind cells rest count
-    c.in-Some.ensures long (c.are-rows.ensures.0 c.if-not-are-rows.false)
+    c.in-Some.ensures long (c.are_rows.ensures.0 c.if-not-are_rows.false)
     (λ i. record { kind = c.in-Some.parts.kind; width = length cells; cells = c.stored.ensures i; start = c.args.start; count = count })
-    (ap (λ (l : List ℕ). l ++ drop (length rest) c.args.places.now) c.copy-from-slice.ensures.after)
+    (ap (λ (l : List ℕ). l ++ drop (length rest) c.args.places.now) c.copy_from_slice.ensures.after)

@@ -15,17 +15,17 @@ returns-then-width-gt4 c kind cells rest h =
       | then-width-gt4-via-else-width-gt4+then-width-rest w' ↦ omega (arith, w.0, w.1, w'.if-width-rest.true)
     ]
 
-pub returns-then-not-are-known : goal.returns-then-not-are-known
-returns-then-not-are-known c kind cells rest h =
+pub returns-then-not-are_known : goal.returns-then-not-are_known
+returns-then-not-are_known c kind cells rest h =
     let content = c.args.content.now in
     let count = c.args.count in
-    let cs = c.split-at.result.0.now in
-    let rs = c.split-at.result.1.now in
-    let same = head_cells content count kind cells rest cs rs h c.split-at.ensures.by_index.0 c.split-at.ensures.front-len in
+    let cs = c.split_at.result.0.now in
+    let rs = c.split_at.result.1.now in
+    let same = head_cells content count kind cells rest cs rs h c.split_at.ensures.by_index.0 c.split_at.ensures.front-len in
     let w = head_width content count kind cells rest h in
-    elim c.then-not-are-known.branch [
+    elim c.then-not-are_known.branch [
       | then-not-are-known-via-then-not-are-known w' ↦
-          not_from_Decides c.are-known.result c.are-known.ensures w'.if-not-are-known.true (subst (λ (l : List ℕ). Known l count) same h.known)
+          not_from_Decides c.are_known.result c.are_known.ensures w'.if-not-are-known.true (subst (λ (l : List ℕ). Known l count) same h.known)
       | then-not-are-known-via-else-not-are-known+then-not-are-good w' ↦
           not_from_Decides w'.are-good.result w'.are-good.ensures w'.if-not-are-good.true
           (subst (λ (l : List ℕ). GoodCells (get_or content 1 0) l) (ap (filled 0 4) same ∙ sym w'.stored.ensures)
@@ -35,7 +35,7 @@ returns-then-not-are-known c kind cells rest h =
 pub returns : goal.returns
 returns c =
     let content = c.args.content.now in
-    let cs = c.split-at.result.0.now in
-    headed content c.args.count c.in-ok-kind.kind cs c.split-at.result.1.now (omega arith) c.in-ok-kind.ensures c.split-at.ensures.front-len c.split-at.ensures.by_index.0
-    (c.are-known.ensures.0 c.if-not-are-known.false)
-    (subst (λ (l : List ℕ). GoodCells (get_or content 1 0) l) c.stored.ensures (c.are-good.ensures.0 c.if-not-are-good.false))
+    let cs = c.split_at.result.0.now in
+    headed content c.args.count c.in-ok-kind.kind cs c.split_at.result.1.now (omega arith) c.in-ok-kind.ensures c.split_at.ensures.front-len c.split_at.ensures.by_index.0
+    (c.are_known.ensures.0 c.if-not-are_known.false)
+    (subst (λ (l : List ℕ). GoodCells (get_or content 1 0) l) c.stored.ensures (c.are_good.ensures.0 c.if-not-are_good.false))

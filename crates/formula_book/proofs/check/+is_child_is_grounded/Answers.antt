@@ -2,5 +2,5 @@ use Rattle.std.proofs.Common.{◌∙◌, arith}
 use Rattle.formula_book.proofs.Grounds.{child_deep}
 use Rattle.formula_book.proofs.check.+is_child_is_grounded.Goals as goal
 
-pub is-child-returns : goal.is-child-returns
-is-child-returns t c = c.is-grounded.ensures ∙ child_deep c.args.nodes.now c.args.parent c.args.at (omega arith)
+pub is_child-returns : goal.is_child-returns
+is_child-returns t c = c.is_grounded.ensures ∙ child_deep c.args.nodes.now c.args.parent c.args.at (omega arith)

@@ -23,13 +23,13 @@ returns-then-at-formula t c =
       (λ m. is ∙ last_no l ns f c.args.sets.now c.args.asked.position c.args.asked.place c.args.row c.args.at c.if-at-formula.true m),
     )
 
-pub returns-then-goes-on : goal.returns-then-goes-on
-returns-then-goes-on t c =
+pub returns-then-goes_on : goal.returns-then-goes_on
+returns-then-goes_on t c =
     let b = c.args.book.now in
     let l = lists_of b.lengths.now b.numbers.now in (
       (λ _. step-yes l b.nodes.now c.args.formula.now c.args.sets.now c.args.asked.position c.args.asked.place c.args.row c.args.at (omega arith)
-          c.loop-place.place (c.is-tried.ensures.0 c.if-is-tried.true)
-          (subst (λ x. Met l b.nodes.now c.args.formula.now c.args.sets.now c.args.asked.position c.args.asked.place x (c.args.at + 1)) c.with-place-next.ensures (c.if-goes-on.ensures.0 refl))),
+          c.loop-place.place (c.is_tried.ensures.0 c.if-is_tried.true)
+          (subst (λ x. Met l b.nodes.now c.args.formula.now c.args.sets.now c.args.asked.position c.args.asked.place x (c.args.at + 1)) c.with_place-next.ensures (c.if-goes_on.ensures.0 refl))),
       (λ _. refl),
     )
 
@@ -38,21 +38,21 @@ loop-place-preserved t c =
     let b = c.args.book.now in
     let l = lists_of b.lengths.now b.numbers.now in
     let cell = get_or c.args.formula.now.cells c.args.at 0 in
-    elim c.if-is-tried.branch [
+    elim c.if-is_tried.branch [
       | then-is-tried+else-goes-on w ↦
           λ u h. ⊎_elim
           (λ below. c.loop-place.invariant u below)
           (λ from.
           let is : u.place ≡ c.loop-place.place = omega arith in
-          false≢true (w.if-goes-on.ensures.1
-          (subst (λ x. Met l b.nodes.now c.args.formula.now c.args.sets.now c.args.asked.position c.args.asked.place x (c.args.at + 1)) (ap (λ p. set c.args.row cell (number_at l cell p)) is ∙ sym w.with-place-next.ensures) u.met)))
+          false≢true (w.if-goes_on.ensures.1
+          (subst (λ x. Met l b.nodes.now c.args.formula.now c.args.sets.now c.args.asked.position c.args.asked.place x (c.args.at + 1)) (ap (λ p. set c.args.row cell (number_at l cell p)) is ∙ sym w.with_place-next.ensures) u.met)))
           (cases_lt u.place c.loop-place.place)
       | else-is-tried w ↦
           λ u h. ⊎_elim
           (λ below. c.loop-place.invariant u below)
           (λ from.
           let is : u.place ≡ c.loop-place.place = omega arith in
-          not_from_Decides c.is-tried.result c.is-tried.ensures w.if-is-tried.false
+          not_from_Decides c.is_tried.result c.is_tried.ensures w.if-is_tried.false
           (subst (Tried l c.args.sets.now c.args.asked.position c.args.asked.place cell c.args.at) is u.tried))
           (cases_lt u.place c.loop-place.place)
     ]

@@ -4,8 +4,8 @@ use Rattle.formula_book.specs.Support.{Tried, Met, lists_of}
 use Rattle.formula_book.proofs.Finding.{Next}
 use Rattle.formula_book.proofs.search.+goes_on.Given as goal
 
-abbrev pub decreases-goes-on : goal.decreases-goes-on
-decreases-goes-on l = l.formula.now.width - l.at
+abbrev pub decreases-goes_on : goal.decreases-goes_on
+decreases-goes_on l = l.formula.now.width - l.at
 
 -- no met row goes on with a place below
 abbrev pub invariant-loop-place : goal.invariant-loop-place

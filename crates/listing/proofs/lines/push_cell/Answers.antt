@@ -8,9 +8,9 @@ pub returns : goal.returns
 returns c =
     let n = numeral c.args.cell in
     let zs = flat_map (λ z. 32 ∷ number_text z) c.args.numbers.now in
-    made_so c.push-bytes-3.result
+    made_so c.push_bytes-3.result
     (λ e.
-    after (vec_items c.args.out.now) (67 ∷ []) (n ++ (58 ∷ (zs ++ (10 ∷ [])))) c.in-ok-push-bytes.ensures
-    (after (vec_items c.push-bytes.new.out) n (58 ∷ (zs ++ (10 ∷ []))) c.in-ok-push-digits.ensures
-    (after (vec_items c.push-digits.new.out) (58 ∷ []) (zs ++ (10 ∷ [])) c.in-ok-push-bytes-2.ensures
-    (after (vec_items c.push-bytes-2.new.out) zs (10 ∷ []) c.in-ok-push-numbers.ensures e)))) c.push-bytes-3.ensures
+    after (vec_items c.args.out.now) (67 ∷ []) (n ++ (58 ∷ (zs ++ (10 ∷ [])))) c.in-ok-push_bytes.ensures
+    (after (vec_items c.push_bytes.new.out) n (58 ∷ (zs ++ (10 ∷ []))) c.in-ok-push_digits.ensures
+    (after (vec_items c.push_digits.new.out) (58 ∷ []) (zs ++ (10 ∷ [])) c.in-ok-push_bytes-2.ensures
+    (after (vec_items c.push_bytes-2.new.out) zs (10 ∷ []) c.in-ok-push_numbers.ensures e)))) c.push_bytes-3.ensures

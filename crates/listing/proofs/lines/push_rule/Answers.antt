@@ -16,11 +16,11 @@ returns c =
     let ns = names (take rule.width rule.cells) in
     let rs = commas (map row_text (rows_in c.args.places.now rule)) in
     let cells : c.part.result.now ≡ take rule.width rule.cells = c.part.ensures ∙ ap (λ m. take m rule.cells) c.from.ensures in
-    made_so c.push-bytes-3.result
+    made_so c.push_bytes-3.result
     (λ e.
-    after (vec_items c.args.out.now) (codes "rule ") (n ++ (k ++ (ns ++ (58 ∷ (rs ++ (10 ∷ [])))))) c.in-ok-push-bytes.ensures
-    (after (vec_items c.push-bytes.new.out) n (k ++ (ns ++ (58 ∷ (rs ++ (10 ∷ []))))) c.in-ok-push-digits.ensures
-    (after (vec_items c.push-digits.new.out) k (ns ++ (58 ∷ (rs ++ (10 ∷ [])))) c.in-ok-push-kind.ensures
-    (after (vec_items c.push-kind.new.out) ns (58 ∷ (rs ++ (10 ∷ []))) (c.in-ok-push-each.ensures ∙ ap (λ x. vec_items c.push-kind.new.out ++ names x) cells)
-    (after (vec_items c.push-each.new.out) (58 ∷ []) (rs ++ (10 ∷ [])) c.in-ok-push-bytes-2.ensures
-    (after (vec_items c.push-bytes-2.new.out) rs (10 ∷ []) c.in-ok-push-rows.ensures e)))))) c.push-bytes-3.ensures
+    after (vec_items c.args.out.now) (codes "rule ") (n ++ (k ++ (ns ++ (58 ∷ (rs ++ (10 ∷ [])))))) c.in-ok-push_bytes.ensures
+    (after (vec_items c.push_bytes.new.out) n (k ++ (ns ++ (58 ∷ (rs ++ (10 ∷ []))))) c.in-ok-push_digits.ensures
+    (after (vec_items c.push_digits.new.out) k (ns ++ (58 ∷ (rs ++ (10 ∷ [])))) c.in-ok-push_kind.ensures
+    (after (vec_items c.push_kind.new.out) ns (58 ∷ (rs ++ (10 ∷ []))) (c.in-ok-push_each.ensures ∙ ap (λ x. vec_items c.push_kind.new.out ++ names x) cells)
+    (after (vec_items c.push_each.new.out) (58 ∷ []) (rs ++ (10 ∷ [])) c.in-ok-push_bytes-2.ensures
+    (after (vec_items c.push_bytes-2.new.out) rs (10 ∷ []) c.in-ok-push_rows.ensures e)))))) c.push_bytes-3.ensures

@@ -8,7 +8,7 @@ pub returns : goal.returns
 returns c = record {
   sized = record {
     lengths = length-set c.args.stores.now.lengths.now c.args.extent.cells c.in-ok-length.length;
-    numbers = length_part _ _ c.args.stores.now.numbers.now c.read-list.new.numbers (omega arith) c.read-list.auto.numbers;
+    numbers = length_part _ _ c.args.stores.now.numbers.now c.read_list.new.numbers (omega arith) c.read_list.auto.numbers;
     rules = refl;
     places = refl;
     formulas = refl;
@@ -32,7 +32,7 @@ returns-in-err-length c =
     record {
       sized = record {
         lengths = refl;
-        numbers = length_part _ _ c.args.stores.now.numbers.now c.read-list.new.numbers (omega arith) c.read-list.auto.numbers;
+        numbers = length_part _ _ c.args.stores.now.numbers.now c.read_list.new.numbers (omega arith) c.read_list.auto.numbers;
         rules = refl;
         places = refl;
         formulas = refl;

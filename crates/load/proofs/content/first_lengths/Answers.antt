@@ -7,4 +7,4 @@ returns c =
     let lengths = c.args.stores.now.lengths.now in
     let all : c.args.cells - 0 ≡ c.args.cells = omega arith in
     let same = ap (λ n. take n lengths) all in
-    take_at c.copy-from-slice.new.self _ c.args.cells (ap length c.copy-from-slice.ensures.after ∙ ap length same ∙ length-take-le c.args.cells lengths c.requires.there) ∙ c.copy-from-slice.ensures.after ∙ same
+    take_at c.copy_from_slice.new.self _ c.args.cells (ap length c.copy_from_slice.ensures.after ∙ ap length same ∙ length-take-le c.args.cells lengths c.requires.there) ∙ c.copy_from_slice.ensures.after ∙ same

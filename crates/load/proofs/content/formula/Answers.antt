@@ -18,7 +18,7 @@ returns c = record {
     rules = refl;
     places = refl;
     formulas = length-set c.args.stores.now.formulas.now c.args.extent.formulas c.in-ok-formula.formula;
-    nodes = length_front 32768 c.args.stores.now.nodes.now c.read-formula.new.nodes c.requires.enough.nodes c.read-formula.auto.nodes;
+    nodes = length_front 32768 c.args.stores.now.nodes.now c.read_formula.new.nodes c.requires.enough.nodes c.read_formula.auto.nodes;
   };
   adds = λ before s enough good is at.
       let k = c.in-ok-formula.ensures in
@@ -44,7 +44,7 @@ returns-in-err-formula c =
         rules = refl;
         places = refl;
         formulas = refl;
-        nodes = length_front 32768 c.args.stores.now.nodes.now c.read-formula.new.nodes c.requires.enough.nodes c.read-formula.auto.nodes;
+        nodes = length_front 32768 c.args.stores.now.nodes.now c.read_formula.new.nodes c.requires.enough.nodes c.read_formula.auto.nodes;
       };
       adds = λ before s enough good is at.
           let k = c.in-err-formula.ensures in

@@ -11,13 +11,13 @@ returns c = record {
     lengths = refl;
     numbers = refl;
     rules = length-set c.args.stores.now.rules.now c.args.extent.rules c.in-ok-rule.rule;
-    places = length_part _ _ c.args.stores.now.places.now c.read-rows.new.places (omega arith) c.read-rows.auto.places;
+    places = length_part _ _ c.args.stores.now.places.now c.read_rows.new.places (omega arith) c.read_rows.auto.places;
     formulas = refl;
     nodes = refl;
   };
   adds = λ before s enough good is at.
       let k = c.in-ok-rule.ensures in
-      let same = lengths_known before s enough good (held c.args.stores.now) is c.args.extent at c.first-lengths-lengths.result c.first-lengths-lengths.ensures in
+      let same = lengths_known before s enough good (held c.args.stores.now) is c.args.extent at c.first_lengths-lengths.result c.first_lengths-lengths.ensures in
       let g = k.good s.lists same in
       let count : c.in-ok-rule.rule.count * c.in-ok-rule.rule.width ≡ length (places_of k.field) = places_count s.lists k.field g c.args.extent.places c.in-ok-rule.rule k.rule_is in
       let fits : c.args.extent.places + length (places_of k.field) ≤ 32768 = omega (arith, places_short k.field, ap length k.said, c.requires.places) in
@@ -38,12 +38,12 @@ returns-in-err-rule c =
         lengths = refl;
         numbers = refl;
         rules = refl;
-        places = length_part _ _ c.args.stores.now.places.now c.read-rows.new.places (omega arith) c.read-rows.auto.places;
+        places = length_part _ _ c.args.stores.now.places.now c.read_rows.new.places (omega arith) c.read_rows.auto.places;
         formulas = refl;
         nodes = refl;
       };
       adds = λ before s enough good is at.
-          let same = lengths_known before s enough good (held c.args.stores.now) is c.args.extent at c.first-lengths-lengths.result c.first-lengths-lengths.ensures in
+          let same = lengths_known before s enough good (held c.args.stores.now) is c.args.extent at c.first_lengths-lengths.result c.first_lengths-lengths.ensures in
           let k = c.in-err-rule.ensures in
           rw (p.1, p.2) ((k.fault_is, k.none s.lists same));
     }

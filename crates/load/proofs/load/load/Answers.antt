@@ -12,7 +12,7 @@ fields-requires c =
     let z = same_zeroed (held c.args.stores.now) (held c.clear.new.stores) c.clear.ensures in
     record {
       short = c.if-file-gt-FILE.false;
-      enough = enough_same z (c.if-not-are-enough.ensures.0 refl);
+      enough = enough_same z (c.if-not-are_enough.ensures.0 refl);
       zero = c.clear.ensures ∙ sym (zeroed_same z) ∙ zero_empty (held c.clear.new.stores);
     }
 
@@ -20,7 +20,7 @@ pub returns-in-Ok : goal.returns-in-Ok
 returns-in-Ok c =
     let z = same_zeroed (held c.args.stores.now) (held c.clear.new.stores) c.clear.ensures in
     let k = c.in-Ok.ensures.decided in
-    let sized : Sized c.args.file.now (held c.args.stores.now) = record { short = c.if-file-gt-FILE.false; enough = c.if-not-are-enough.ensures.0 refl } in
+    let sized : Sized c.args.file.now (held c.args.stores.now) = record { short = c.if-file-gt-FILE.false; enough = c.if-not-are_enough.ensures.0 refl } in
     record {
       loads = record {
         sized = sized;
@@ -40,7 +40,7 @@ pub returns-in-Err : goal.returns-in-Err
 returns-in-Err c =
     let z = same_zeroed (held c.args.stores.now) (held c.clear.new.stores) c.clear.ensures in
     let k = c.in-Err.ensures in
-    let sized : Sized c.args.file.now (held c.args.stores.now) = record { short = c.if-file-gt-FILE.false; enough = c.if-not-are-enough.ensures.0 refl } in
+    let sized : Sized c.args.file.now (held c.args.stores.now) = record { short = c.if-file-gt-FILE.false; enough = c.if-not-are_enough.ensures.0 refl } in
     record {
       loads = faulty sized k.decided (c.clear-in-Err.ensures ∙ zeroed_same (same_then z k.sized));
       exact = record {

@@ -11,17 +11,17 @@ returns-then-at-rule t c =
     let bytes = c.args.bytes.now in
     let rule = c.args.rule.now in (
       (λ e. last_yes bytes rule c.args.masks c.args.places c.args.at c.if-at-rule.true
-          (not_from_Decides c.is-stored.result c.is-stored.ensures (not-true c.is-stored.result e))),
-      (λ w. not_from_false c.is-stored.result (⊎_elim
-          (λ y. absurd (last_no bytes rule c.args.masks c.args.places c.args.at c.if-at-rule.true (c.is-stored.ensures.0 y) w))
+          (not_from_Decides c.is_stored.result c.is_stored.ensures (not-true c.is_stored.result e))),
+      (λ w. not_from_false c.is_stored.result (⊎_elim
+          (λ y. absurd (last_no bytes rule c.args.masks c.args.places c.args.at c.if-at-rule.true (c.is_stored.ensures.0 y) w))
           (λ f. f)
-          (cases_Bool c.is-stored.result))),
+          (cases_Bool c.is_stored.result))),
     )
 
-pub returns-then-goes-on : goal.returns-then-goes-on
-returns-then-goes-on t c = (
+pub returns-then-goes_on : goal.returns-then-goes_on
+returns-then-goes_on t c = (
   (λ _. step-yes c.args.bytes.now c.args.rule.now c.args.masks c.args.places c.args.at c.loop-place.place (omega arith)
-      (c.has.ensures.0 c.if-has.true) (c.if-goes-on.ensures.0 refl)),
+      (c.has.ensures.0 c.if-has.true) (c.if-goes_on.ensures.0 refl)),
   (λ _. refl),
 )
 
@@ -32,7 +32,7 @@ loop-place-preserved t c =
           λ u h. ⊎_elim
           (λ b. c.loop-place.invariant u b)
           (λ b. step-no c.args.bytes.now c.args.rule.now c.args.masks c.args.places c.args.at c.loop-place.place (omega arith)
-          (λ found. false≢true (w.if-goes-on.ensures.1 found)) u (omega arith))
+          (λ found. false≢true (w.if-goes_on.ensures.1 found)) u (omega arith))
           (cases_lt (get_or u.row c.args.at 0) c.loop-place.place)
       | else-has w ↦
           λ u h. ⊎_elim

@@ -2,8 +2,8 @@ use Rattle.std.proofs.Common.{ℕ, ◌-◌, ◌<◌, get_or}
 use Rattle.rows.specs.Support.{Unstored}
 use Rattle.rows.proofs.search.+goes_on.Given as goal
 
-abbrev pub decreases-goes-on : goal.decreases-goes-on
-decreases-goes-on l = l.rule.now.width - l.at
+abbrev pub decreases-goes_on : goal.decreases-goes_on
+decreases-goes_on l = l.rule.now.width - l.at
 
 -- no row goes on with a place below
 abbrev pub invariant-loop-place : goal.invariant-loop-place

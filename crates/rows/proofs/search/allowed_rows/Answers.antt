@@ -5,8 +5,8 @@ use Rattle.rows.specs.Support.{rows_within}
 use Rattle.rows.proofs.Pigeon.{within_small}
 use Rattle.rows.proofs.search.allowed_rows.Goals as goal
 
-pub overflow-mul-rows : goal.overflow-mul-rows
-overflow-mul-rows c =
+pub overflow_mul-rows : goal.overflow_mul-rows
+overflow_mul-rows c =
     let few : c.loop-position.rows ≤ 262144 = omega (arith, c.loop-position.invariant, within_small c.args.masks c.loop-position.position (omega arith)) in
     let most : c.count.result ≤ 64 = omega (arith, c.count.ensures, size_le (get_or c.args.masks c.loop-position.position 0)) in
     omega (arith, mul-le c.loop-position.rows c.count.result 262144 64 few most)

@@ -7,7 +7,7 @@ use Rattle.rows.proofs.search.some_stored.Goals as goal
 pub loop-row-preserved : goal.loop-row-preserved
 loop-row-preserved c =
     below_more (λ j. Within c.args.bytes.now c.args.rule.now j c.args.masks → ⊥) c.loop-row.row c.loop-row.invariant
-    (not_from_Decides c.is-within.result c.is-within.ensures c.if-is-within.false)
+    (not_from_Decides c.is_within.result c.is_within.ensures c.if-is_within.false)
 
 pub returns : goal.returns
 returns c = ((λ e. absurd (false≢true e)), (λ s. absurd (c.loop-row.invariant s.0 (omega (arith, s.1)) s.2)))

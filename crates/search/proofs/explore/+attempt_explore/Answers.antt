@@ -32,8 +32,8 @@ attempt-settle-requires g t c =
     (sym (c.only.ensures.one c.requires.small)) c.requires.able in
     record { suits = a.suits; full = a.full; weighted = a.weighted }
 
-pub attempt-explore-requires : goal.attempt-explore-requires
-attempt-explore-requires g t c κs within =
+pub attempt_explore-requires : goal.attempt_explore-requires
+attempt_explore-requires g t c κs within =
     let e = c.only.ensures.one c.requires.small in
     let a = subst (λ (x : ℕ). Able (g.B.RuleBook.meaning c.args.book.now) (set c.args.sets.now c.args.trial.cell x) (length c.args.weights.now) (length c.args.work.now))
     (sym e) c.requires.able in (
@@ -76,8 +76,8 @@ explore-bounds-sets-cell g t c =
     (named-within (g.B.RuleBook.meaning c.args.book.now) c.args.listed c.tries.sets c.tries.weights g.C.Chooser.meaning g.C.Chooser.laws c.tries.chooser
     c.choose-cell.result c.choose-cell.ensures c.if-cell.false).0
 
-pub explore-split-at-mut-before-requires : goal.explore-split-at-mut-before-requires
-explore-split-at-mut-before-requires g t c =
+pub explore-split_at_mut-before-requires : goal.explore-split_at_mut-before-requires
+explore-split_at_mut-before-requires g t c =
     let m = g.B.RuleBook.meaning c.args.book.now in
     let k = g.C.Chooser.meaning in
     let p = picked k g.C.Chooser.laws m c.args.listed c.tries.chooser c.tries.sets c.tries.used c.tries.weights c.choose-cell.result c.lowest.result
@@ -97,7 +97,7 @@ explore-attempt-requires g t c κs within =
         (
           within.1,
           (
-            able_alone _ _ c.tries.invariant.2 p.known c.tries.auto.weights (c.split-at-mut-before.ensures.back_len ∙ c.tries.auto.work),
+            able_alone _ _ c.tries.invariant.2 p.known c.tries.auto.weights (c.split_at_mut-before.ensures.back_len ∙ c.tries.auto.work),
             (p.known.within, (p.known.there.0, p.above)),
           ),
         ),
@@ -118,7 +118,7 @@ explore-retreat-requires g t c =
     let k = g.C.Chooser.meaning in
     let p = picked k g.C.Chooser.laws m c.args.listed c.tries.chooser c.tries.sets c.tries.used c.tries.weights c.choose-cell.result c.lowest.result
     c.choose-cell.ensures c.if-cell.false c.lowest.ensures.some in
-    let e = c.copy-from-slice.ensures.after in
+    let e = c.copy_from_slice.ensures.after in
     record {
       long = c.attempt.auto.sets ∙ sym (ap length e);
       within = rw e p.known.within;
@@ -131,7 +131,7 @@ explore-settle-requires g t c =
     let k = g.C.Chooser.meaning in
     let p = picked k g.C.Chooser.laws m c.args.listed c.tries.chooser c.tries.sets c.tries.used c.tries.weights c.choose-cell.result c.lowest.result
     c.choose-cell.ensures c.if-cell.false c.lowest.ensures.some in
-    let b = c.retreat.ensures ∙ ap (λ (x : List ℕ). out_of x c.choose-cell.result c.lowest.result) c.copy-from-slice.ensures.after in
+    let b = c.retreat.ensures ∙ ap (λ (x : List ℕ). out_of x c.choose-cell.result c.lowest.result) c.copy_from_slice.ensures.after in
     let a = able_out c.tries.invariant.2 p.known c.retreat.new.sets (length c.attempt.new.weights) b (c.attempt.auto.weights ∙ c.tries.auto.weights) in
     record { suits = a.suits; full = a.full; weighted = a.weighted }
 
@@ -141,7 +141,7 @@ explore-returns-in-Err g t c =
     let k = g.C.Chooser.meaning in
     let p = picked k g.C.Chooser.laws m c.args.listed c.tries.chooser c.tries.sets c.tries.used c.tries.weights c.choose-cell.result c.lowest.result
     c.choose-cell.ensures c.if-cell.false c.lowest.ensures.some in
-    let b = c.retreat.ensures ∙ ap (λ (x : List ℕ). out_of x c.choose-cell.result c.lowest.result) c.copy-from-slice.ensures.after in
+    let b = c.retreat.ensures ∙ ap (λ (x : List ℕ). out_of x c.choose-cell.result c.lowest.result) c.copy_from_slice.ensures.after in
     c.tries.invariant.0 _ _ _ (fails_on p.choice (c.if-attempt.ensures.failed refl) b c.in-Err.ensures.steps)
 
 pub explore-tries-smaller : goal.explore-tries-smaller
@@ -150,7 +150,7 @@ explore-tries-smaller g t c =
     let k = g.C.Chooser.meaning in
     let p = picked k g.C.Chooser.laws m c.args.listed c.tries.chooser c.tries.sets c.tries.used c.tries.weights c.choose-cell.result c.lowest.result
     c.choose-cell.ensures c.if-cell.false c.lowest.ensures.some in
-    let b = c.retreat.ensures ∙ ap (λ (x : List ℕ). out_of x c.choose-cell.result c.lowest.result) c.copy-from-slice.ensures.after in
+    let b = c.retreat.ensures ∙ ap (λ (x : List ℕ). out_of x c.choose-cell.result c.lowest.result) c.copy_from_slice.ensures.after in
     lt_of_le_of_lt c.in-default.ensures.less (out_falls _ _ _ _ p.known b)
 
 pub explore-tries-preserved : goal.explore-tries-preserved
@@ -159,7 +159,7 @@ explore-tries-preserved g t c =
     let k = g.C.Chooser.meaning in
     let p = picked k g.C.Chooser.laws m c.args.listed c.tries.chooser c.tries.sets c.tries.used c.tries.weights c.choose-cell.result c.lowest.result
     c.choose-cell.ensures c.if-cell.false c.lowest.ensures.some in
-    let b = c.retreat.ensures ∙ ap (λ (x : List ℕ). out_of x c.choose-cell.result c.lowest.result) c.copy-from-slice.ensures.after in
+    let b = c.retreat.ensures ∙ ap (λ (x : List ℕ). out_of x c.choose-cell.result c.lowest.result) c.copy_from_slice.ensures.after in
     let a = able_out c.tries.invariant.2 p.known c.retreat.new.sets (length c.attempt.new.weights) b (c.attempt.auto.weights ∙ c.tries.auto.weights) in (
       λ found y u h. c.tries.invariant.0 found y u (goes_on_with p.choice (c.if-attempt.ensures.failed refl) b c.in-default.ensures.steps h),
       le_of_lt_le c.in-default.ensures.less (out_falls _ _ _ _ p.known b) c.tries.invariant.1,

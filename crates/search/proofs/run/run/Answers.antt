@@ -11,7 +11,7 @@ use Rattle.search.proofs.run.run.Goals as goal
 pub search-requires : goal.search-requires
 search-requires g c =
     let m = g.B.RuleBook.meaning c.args.book.now in
-    let e = c.copy-from-slice.ensures.after in
+    let e = c.copy_from_slice.ensures.after in
     subst (λ (x : List ℕ). Able m x (length c.args.weights.now) (length c.args.work.now)) (sym e)
     (record {
       few = c.requires.ready.few;
@@ -28,7 +28,7 @@ returns-then-search g c =
     let law = g.B.RuleBook.laws c.args.book.now in
     let t : State = state c.search.new.sets c.search.new.used c.search.new.weights in
     let a = ran (subst₂ (λ (x : g.row.C.Denot) (s : List ℕ). Searches k m c.args.listed x (state s 0 c.args.weights.now) true c.search.new.chooser t)
-    c.tell.ensures c.copy-from-slice.ensures.after c.if-search.ensures) in
+    c.tell.ensures c.copy_from_slice.ensures.after c.if-search.ensures) in
     record {
       steps = a;
       only = only_run a;
@@ -44,7 +44,7 @@ returns g c =
     let law = g.B.RuleBook.laws c.args.book.now in
     let t : State = state c.search.new.sets c.search.new.used c.search.new.weights in
     let a = ran (subst₂ (λ (x : g.row.C.Denot) (s : List ℕ). Searches k m c.args.listed x (state s 0 c.args.weights.now) false c.search.new.chooser t)
-    c.tell.ensures c.copy-from-slice.ensures.after c.if-search.ensures) in
+    c.tell.ensures c.copy_from_slice.ensures.after c.if-search.ensures) in
     record {
       steps = a;
       only = only_run a;

@@ -22,7 +22,7 @@ returns-in-err-removed g c =
 
 pub returns : goal.returns
 returns g c = (
-  λ w. past_all c.cell-cell.result c.past-highest-place-end.result c.cell-cell.ensures c.requires.within c.past-highest-place-end.ensures.few c.past-highest-place-end.ensures.above
+  λ w. past_all c.cell-cell.result c.past_highest-place-end.result c.cell-cell.ensures c.requires.within c.past_highest-place-end.ensures.few c.past_highest-place-end.ensures.above
       (turns_all _ _ (omega arith) (c.loop-place.invariant.0 w)),
   c.loop-place.invariant.1,
 )

@@ -20,6 +20,6 @@ returns-in-Ok g c =
 pub returns-in-Err : goal.returns-in-Err
 returns-in-Err g c =
     let a = subst (λ (w : List ℕ). Fails (g.B.RuleBook.meaning c.args.book.now) c.args.listed c.in-Err.emptied.rule
-    (state c.args.sets.now c.args.used.now c.args.weights.now) (state c.sweep-all.new.sets c.sweep-all.new.used w))
+    (state c.args.sets.now c.args.used.now c.args.weights.now) (state c.sweep_all.new.sets c.sweep_all.new.used w))
     (sym c.weigh.ensures) (c.in-Err.ensures c.args.weights.now) in
     record { steps = a; only = only_fails a; law = fails_law _ _ _ c.requires.suits refl a; less = fails_le _ _ _ c.requires.suits refl a }

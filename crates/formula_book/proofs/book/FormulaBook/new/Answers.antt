@@ -2,7 +2,7 @@ use Rattle.std.proofs.Common.{arith}
 use Rattle.formula_book.proofs.book.FormulaBook.new.Goals as goal
 
 pub invariant-of-result : goal.invariant-of-result
-invariant-of-result c = (∣ c.is-well-formed.ensures.0 c.if-is-well-formed.true ∣₁, tt)
+invariant-of-result c = (∣ c.is_well_formed.ensures.0 c.if-is_well_formed.true ∣₁, tt)
 
 -- no rules are well formed
 pub invariant-of-result-2 : goal.invariant-of-result-2

@@ -4,16 +4,16 @@ use Rattle.rows.proofs.Rows.{permits_decides}
 use Rattle.rows.proofs.book.RowsBook.new.Goals as goal
 
 pub invariant-of-result : goal.invariant-of-result
-invariant-of-result c = (∣ c.is-well-formed.ensures.0 c.if-is-well-formed.true ∣₁, tt)
+invariant-of-result c = (∣ c.is_well_formed.ensures.0 c.if-is_well_formed.true ∣₁, tt)
 
 -- no rules are well formed
 pub invariant-of-result-2 : goal.invariant-of-result-2
 invariant-of-result-2 c = (∣ record { few = omega arith; each = λ r h. absurd (omega arith) } ∣₁, tt)
 
-pub returns-then-is-well-formed : goal.returns-then-is-well-formed
-returns-then-is-well-formed c = record {
+pub returns-then-is_well_formed : goal.returns-then-is_well_formed
+returns-then-is_well_formed c = record {
   taken = λ _. refl;
-  refused = λ none. absurd (none (c.is-well-formed.ensures.0 c.if-is-well-formed.true));
+  refused = λ none. absurd (none (c.is_well_formed.ensures.0 c.if-is_well_formed.true));
   bytes = refl;
   means = λ k row. let rule = get_or c.args.rules.now k no_rows in permits_decides rule.kind c.args.bytes.now rule row;
 }

@@ -17,13 +17,13 @@ allowed-masks-requires c =
     let n = narrow b.rules.now b.bytes.now b.ok c.args.rule c.args.position c.width.result c.width.ensures c.if-position-width.false in
     omega arith
 
-pub some-stored-requires : goal.some-stored-requires
-some-stored-requires c =
+pub some_stored-requires : goal.some_stored-requires
+some_stored-requires c =
     let b = c.args.self.now in
     narrow b.rules.now b.bytes.now b.ok c.args.rule c.args.position c.width.result c.width.ensures c.if-position-width.false
 
-pub some-unstored-requires : goal.some-unstored-requires
-some-unstored-requires c =
+pub some_unstored-requires : goal.some_unstored-requires
+some_unstored-requires c =
     let b = c.args.self.now in
     narrow b.rules.now b.bytes.now b.ok c.args.rule c.args.position c.width.result c.width.ensures c.if-position-width.false
 
@@ -34,8 +34,8 @@ returns-in-Permitted c =
     let bytes = b.bytes.now in
     let n = narrow b.rules.now bytes b.ok c.args.rule c.args.position c.width.result c.width.ensures c.if-position-width.false in
     let w = within b.rules.now bytes b.ok c.args.rule c.args.position c.width.result c.width.ensures c.if-position-width.false in
-    subst (λ kind. Decides c.some-stored.result (Supported (of_kind bytes rule kind) c.args.position c.args.place c.args.sets.now)) (sym c.in-Permitted.is)
-    (permitted_decides bytes rule n c.args.position c.args.place w c.args.sets.now c.allowed-masks.result c.allowed-masks.ensures c.some-stored.result c.some-stored.ensures)
+    subst (λ kind. Decides c.some_stored.result (Supported (of_kind bytes rule kind) c.args.position c.args.place c.args.sets.now)) (sym c.in-Permitted.is)
+    (permitted_decides bytes rule n c.args.position c.args.place w c.args.sets.now c.allowed-masks.result c.allowed-masks.ensures c.some_stored.result c.some_stored.ensures)
 
 pub returns-in-Forbidden : goal.returns-in-Forbidden
 returns-in-Forbidden c =
@@ -44,6 +44,6 @@ returns-in-Forbidden c =
     let bytes = b.bytes.now in
     let n = narrow b.rules.now bytes b.ok c.args.rule c.args.position c.width.result c.width.ensures c.if-position-width.false in
     let w = within b.rules.now bytes b.ok c.args.rule c.args.position c.width.result c.width.ensures c.if-position-width.false in
-    subst (λ kind. Decides c.some-unstored.result (Supported (of_kind bytes rule kind) c.args.position c.args.place c.args.sets.now)) (sym c.in-Forbidden.is)
+    subst (λ kind. Decides c.some_unstored.result (Supported (of_kind bytes rule kind) c.args.position c.args.place c.args.sets.now)) (sym c.in-Forbidden.is)
     (forbidden_decides bytes rule n c.args.position c.args.place w c.args.sets.now c.allowed-masks.result c.allowed-masks.ensures
-    [] c.some-unstored.result c.some-unstored.ensures)
+    [] c.some_unstored.result c.some_unstored.ensures)

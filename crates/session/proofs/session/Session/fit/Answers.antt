@@ -19,23 +19,23 @@ returns-in-err-opened g c =
     let q = c.in-err-opened.ensures in
     fit_shut g.B.RuleBook.meaning g.C.Chooser.meaning c.args.self.now c.args.work.now c.args.log.now c.args.filling.now c.from-residual.result (p.1 ∙ ap Err (p.2 ∙ q.0)) q.1
 
-pub returns-then-not-are-enough : goal.returns-then-not-are-enough
-returns-then-not-are-enough g c = record {
-  judged = fits_short c.in-ok-opened.ensures (decides_not c.are-enough.result c.are-enough.ensures c.if-not-are-enough.true);
+pub returns-then-not-are_enough : goal.returns-then-not-are_enough
+returns-then-not-are_enough g c = record {
+  judged = fits_short c.in-ok-opened.ensures (decides_not c.are_enough.result c.are_enough.ensures c.if-not-are_enough.true);
   refused = λ _. (refl, refl, refl, refl);
   done = λ z. absurd (omega arith);
 }
 
-pub slice-bounds-start-end : goal.slice-bounds-start-end
-slice-bounds-start-end g c = omega (arith, few_cells (sheet_of g.B.RuleBook.meaning c.args.self.now) c.in-ok-opened.ensures)
+pub slice_bounds-start-end : goal.slice_bounds-start-end
+slice_bounds-start-end g c = omega (arith, few_cells (sheet_of g.B.RuleBook.meaning c.args.self.now) c.in-ok-opened.ensures)
 
-pub slice-bounds-sets-end : goal.slice-bounds-sets-end
-slice-bounds-sets-end g c = omega (arith, few_cells (sheet_of g.B.RuleBook.meaning c.args.self.now) c.in-ok-opened.ensures)
+pub slice_bounds-sets-end : goal.slice_bounds-sets-end
+slice_bounds-sets-end g c = omega (arith, few_cells (sheet_of g.B.RuleBook.meaning c.args.self.now) c.in-ok-opened.ensures)
 
 pub solve-requires : goal.solve-requires
 solve-requires g c =
     let few : length c.args.self.now.lengths.now ≤ 64 = few_cells (sheet_of g.B.RuleBook.meaning c.args.self.now) c.in-ok-opened.ensures in
-    let enough = c.are-enough.ensures.0 c.if-not-are-enough.false in
+    let enough = c.are_enough.ensures.0 c.if-not-are_enough.false in
     record {
       opens = c.in-ok-opened.ensures;
       starts = part_long (replicate 64 0) (length c.args.self.now.lengths.now) few;
@@ -47,7 +47,7 @@ solve-requires g c =
 
 pub returns : goal.returns
 returns g c = record {
-  judged = fits c.in-ok-opened.ensures (c.are-enough.ensures.0 c.if-not-are-enough.false);
+  judged = fits c.in-ok-opened.ensures (c.are_enough.ensures.0 c.if-not-are_enough.false);
   refused = λ ne. absurd (ne refl);
   done = λ _. (c.solve.result, refl, c.solve.ensures);
 }
