@@ -1,12 +1,11 @@
 -- What is known of the cell that a chooser names, and of the place to try there. Assumes nothing.
-use Rattle.std.proofs.Common.{◌≡◌, ℕ, zero, suc, ◌+◌, ◌-◌, ◌^◌, ◌<◌, ◌≤◌, ◌≢◌, ◌⊎◌, List, [], ◌∷◌, map, length, get_or, set, sym, refl, ap, ◌∙◌, subst, inl, inr, arith}
-use Rattle.std.specs.List.{range_with_len}
+use Rattle.std.proofs.Common.{◌≡◌, ℕ, ◌-◌, ◌^◌, ◌<◌, ◌≤◌, ◌≢◌, List, length, sym, ap, ◌∙◌, subst, inl, inr, arith}
 use Rattle.std.proofs.lemmas.List.FromFn.{length-map-range_with_len, get_or-map-range_with_len}
 use Rattle.std.proofs.lemmas.List.{get_or_past}
 use Rattle.std.proofs.lemmas.Bool.{cases_eq, cases_lt, cases_order}
-use Rattle.bits.specs.Sets.{In, Lowest, size}
+use Rattle.bits.specs.Sets.{In, size}
 use Rattle.network.specs.Book.{BookMeaning, Remains}
-use Rattle.choosers.specs.Choice.{Machine, Naming, Named, Open, figure, no_figure}
+use Rattle.choosers.specs.Choice.{Machine, Naming, Open, figure, no_figure}
 use Rattle.choosers.specs.declared.chooser.Figure.{Figure}
 use Rattle.runs.specs.Settle.{State, left_at, out_of, Empty}
 use Rattle.runs.specs.Figures.{figure_of, figures_of}

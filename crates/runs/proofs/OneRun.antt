@@ -4,9 +4,9 @@ use mathlib.Core.Path.{subst₃}
 use Rattle.std.proofs.lemmas.Bool.{false≢true, true≢false}
 use Rattle.network.specs.Book.{BookMeaning}
 use Rattle.choosers.specs.Choice.{Machine}
-use Rattle.choosers.specs.declared.chooser.Event.TheVariants.{Start, Failed, Stood}
+use Rattle.choosers.specs.declared.chooser.Event.TheVariants.{Failed, Stood}
 use Rattle.runs.specs.declared.line.Line.{Line}
-use Rattle.runs.specs.Settle.{State, state, Settles, Fails}
+use Rattle.runs.specs.Settle.{State, Settles, Fails}
 use Rattle.runs.specs.Run.{
   alone,
   back,

@@ -1,39 +1,21 @@
 -- The laws of a run, over its relation. Assumes nothing.
-use Rattle.std.proofs.Common.{◌≡◌, ℕ, zero, suc, ◌+◌, ◌-◌, ◌*◌, ◌/◌, ◌%◌, ◌^◌, ◌<◌, ◌≤◌, Bool, true, false, ◌≢◌, ◌⊎◌, List, [], ◌∷◌, map, length, get_or, set, sym, refl, ap, ◌∙◌, subst, subst₂, inl, inr, arith, length-set}
+use Rattle.std.proofs.Common.{◌≡◌, ℕ, zero, suc, ◌-◌, ◌^◌, ◌<◌, ◌≤◌, Bool, true, false, List, [], ◌∷◌, length, get_or, set, sym, refl, ap, ◌∙◌, subst, inl, inr, arith, length-set}
 use lib.ListN.{length-map}
 use Rattle.std.proofs.lemmas.List.{ext_get_or, get_or-map}
-use Rattle.std.proofs.lemmas.Bool.{cases_eq, cases_order, cases_lt}
+use Rattle.std.proofs.lemmas.Bool.{cases_eq, cases_lt}
 use Rattle.bits.specs.Sets.{In, Subset, size}
 use Rattle.bits.proofs.Bits.{has_zero}
 use Rattle.network.specs.Book.{BookMeaning, Lawful, Supported, Remains}
-use Rattle.network.specs.Fillings.{row_of, Meets, MeetsAll, Inside, Meetable}
+use Rattle.network.specs.Fillings.{row_of, MeetsAll, Inside, Meetable}
 use Rattle.choosers.specs.Choice.{Machine, Naming}
 use Rattle.runs.specs.declared.line.Line.{Line}
-use Rattle.runs.specs.Settle.{State, state, left_at, cell_at, out_of, Settles, Fails}
-use Rattle.runs.specs.Run.{
-  alone,
-  back,
-  Choice,
-  TryFails,
-  TryFails.at_first,
-  TryFails.at_last,
-  Explores,
-  Explores.filled,
-  Explores.stands,
-  Explores.goes_on,
-  Explores.ends,
-  Searches,
-  Searches.fails,
-  Searches.settled,
-  Run,
-  Run.ran,
-  line,
-}
+use Rattle.runs.specs.Settle.{State, left_at, cell_at, out_of, Settles, Fails}
+use Rattle.runs.specs.Run.{TryFails, TryFails.at_first, TryFails.at_last, Explores, Explores.filled, Explores.stands, Explores.goes_on, Explores.ends, Searches, Searches.fails, Searches.settled, Run, Run.ran}
 use Rattle.runs.specs.Law.{Suits, Full, Within, Closed, Marks, Settled, Ready, Fills, Right}
 use Rattle.runs.proofs.MoreBits.{some_of}
 use Rattle.runs.proofs.Steps.{out_within, out_inside, alone_within, alone_inside, alone_full}
 use Rattle.runs.proofs.Settling.{row_at, marks_trans, marks_refl, sound_settles, fails_spent, settles_law}
-use Rattle.runs.proofs.Chosen.{Chosen, chosen, none_open, open_full, one_place}
+use Rattle.runs.proofs.Chosen.{chosen, none_open, open_full, one_place}
 
 module _ (m : BookMeaning) (listed n : ℕ) (suits : Suits m n) {C : Type 0} (k : Machine C) (naming : Naming k) where
   -- ---- rules are only marked, and only listed ones

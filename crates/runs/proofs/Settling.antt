@@ -1,49 +1,13 @@
 -- The laws of settling, over its relation. Assumes nothing.
-use Rattle.std.proofs.Common.{◌≡◌, ℕ, zero, suc, ◌+◌, ◌-◌, ◌*◌, ◌/◌, ◌%◌, ◌^◌, ◌<◌, ◌≤◌, ◌≢◌, ◌⊎◌, List, [], ◌∷◌, map, length, get_or, set, sym, refl, ap, ◌∙◌, subst, subst₂, inl, inr, arith, length-set}
+use Rattle.std.proofs.Common.{◌≡◌, ℕ, ◌-◌, ◌^◌, ◌<◌, ◌≤◌, ◌⊎◌, List, length, get_or, sym, refl, ap, ◌∙◌, subst, subst₂, inl, inr, arith, length-set}
 use lib.ListN.{length-map}
-use Rattle.std.proofs.lemmas.List.{get_or-map, get_or_default}
+use Rattle.std.proofs.lemmas.List.{get_or-map}
 use Rattle.std.proofs.lemmas.Bool.{cases_eq, cases_lt}
-use Rattle.bits.specs.Sets.{In, Subset}
+use Rattle.bits.specs.Sets.{In}
 use Rattle.bits.proofs.Bits.{mark_same, mark_more}
 use Rattle.network.specs.Book.{Rule, BookMeaning, Lawful, Supported, Remains}
-use Rattle.network.specs.Fillings.{row_of, Meets, MeetsAll, Inside, Meetable}
-use Rattle.runs.specs.Settle.{
-  Turns,
-  Turns.none,
-  Turns.more,
-  Stops,
-  State,
-  state,
-  left_at,
-  Empty,
-  cell_at,
-  out_of,
-  marked,
-  total,
-  Lost,
-  Revises,
-  Revises.absent,
-  Revises.kept,
-  Revises.removed,
-  Empties,
-  Empties.emptied,
-  Position,
-  PositionFails,
-  Takes,
-  TakesFails,
-  Turn,
-  Turn.unlisted,
-  Turn.taken,
-  TurnFails,
-  Sweep,
-  SweepFails,
-  Settles,
-  Settles.rest,
-  Settles.again,
-  Fails,
-  Fails.at_once,
-  Fails.later,
-}
+use Rattle.network.specs.Fillings.{row_of, Meets, MeetsAll, Inside}
+use Rattle.runs.specs.Settle.{Turns, Turns.none, Turns.more, Stops, State, state, left_at, cell_at, out_of, marked, total, Lost, Revises, Revises.absent, Revises.kept, Revises.removed, Empties, Empties.emptied, Position, PositionFails, Takes, TakesFails, Turn, Turn.unlisted, Turn.taken, Sweep, Settles, Settles.rest, Settles.again, Fails, Fails.at_once, Fails.later}
 use Rattle.runs.specs.Law.{Suits, Full, Within, Closed, Marks, Settled, Clash}
 use Rattle.runs.proofs.MoreBits.{mark_only}
 use Rattle.runs.proofs.Turning.{turns_keep}

@@ -1,9 +1,9 @@
 -- The sets without one place, and one place alone. Assumes nothing.
-use Rattle.std.proofs.Common.{◌≡◌, ℕ, zero, suc, ◌+◌, ◌-◌, ◌*◌, ◌/◌, ◌%◌, ◌^◌, ◌<◌, ◌≤◌, ◌≢◌, ◌⊎◌, List, [], ◌∷◌, length, get_or, set, sym, refl, ap, ◌∙◌, subst, subst₂, inl, inr, arith, length-set, pow_pos}
+use Rattle.std.proofs.Common.{◌≡◌, ℕ, zero, suc, ◌+◌, ◌-◌, ◌^◌, ◌<◌, ◌≢◌, List, [], ◌∷◌, length, get_or, set, sym, ap, ◌∙◌, subst, subst₂, inl, inr, arith, length-set, pow_pos}
 use Rattle.std.proofs.lemmas.List.{get_or-set_same, get_or-set_other}
 use Rattle.std.proofs.lemmas.Bool.{cases_eq}
 use Rattle.bits.specs.Sets.{In}
-use Rattle.bits.proofs.Bits.{has_le, has_zero, out_same, out_other, pow_same, pow_other}
+use Rattle.bits.proofs.Bits.{has_le, out_same, out_other, pow_same, pow_other}
 use Rattle.network.specs.Book.{Remains}
 use Rattle.network.specs.Fillings.{Inside}
 use Rattle.runs.specs.Settle.{left_at, out_of, Empty, total}

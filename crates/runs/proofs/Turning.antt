@@ -1,5 +1,5 @@
 -- Turns, and turns that stop: what they keep, and that there is one way only. Assumes nothing.
-use Rattle.std.proofs.Common.{◌≡◌, ℕ, zero, suc, ◌+◌, ◌<◌, ◌≤◌, ◌≢◌, ◌⊎◌, sym, refl, ap, ◌∙◌, subst, inl, inr, add-one, arith}
+use Rattle.std.proofs.Common.{◌≡◌, ℕ, zero, suc, ◌+◌, ◌<◌, sym, refl, subst, inl, inr, add-one, arith}
 use Rattle.std.proofs.lemmas.Bool.{cases_order}
 use Rattle.runs.specs.Settle.{Turns, Turns.none, Turns.more, Stops}
 

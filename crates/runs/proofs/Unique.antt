@@ -1,35 +1,7 @@
 -- There is one settling from a state, and no other. Assumes nothing.
-use Rattle.std.proofs.Common.{◌≡◌, ℕ, zero, suc, ◌<◌, ◌≢◌, List, sym, refl, ap, ◌∙◌, subst}
-use Rattle.bits.specs.Sets.{In}
+use Rattle.std.proofs.Common.{◌≡◌, ℕ, sym, refl, ap, ◌∙◌, subst}
 use Rattle.network.specs.Book.{BookMeaning}
-use Rattle.runs.specs.Settle.{
-  Turns,
-  Stops,
-  State,
-  state,
-  Revises,
-  Revises.absent,
-  Revises.kept,
-  Revises.removed,
-  Empties,
-  Empties.emptied,
-  Position,
-  PositionFails,
-  Takes,
-  TakesFails,
-  Turn,
-  Turn.unlisted,
-  Turn.taken,
-  TurnFails,
-  Sweep,
-  SweepFails,
-  Settles,
-  Settles.rest,
-  Settles.again,
-  Fails,
-  Fails.at_once,
-  Fails.later,
-}
+use Rattle.runs.specs.Settle.{State, Revises, Revises.absent, Revises.kept, Revises.removed, Empties, Empties.emptied, Position, PositionFails, Turn, Turn.unlisted, Turn.taken, TurnFails, Sweep, SweepFails, Settles, Settles.rest, Settles.again, Fails, Fails.at_once, Fails.later}
 use Rattle.runs.specs.Law.{OnlySettles, OnlyFails}
 use Rattle.runs.proofs.Turning.{Exact, turns_same, turns_stops, stops_same}
 

@@ -1,5 +1,5 @@
 -- What a chooser is given of each cell: how many places remain, and the weighted degree. Assumes nothing.
-use Rattle.std.specs.Prelude.{ℕ, ◌+◌, Bool, true, false, cond, not, ◌&&◌, ◌||◌, List, [], ◌∷◌, map, length, sum, ◌==◌, nat_eq, nat_lt, slice_index}
+use Rattle.std.specs.Prelude.{ℕ, Bool, false, cond, not, ◌&&◌, ◌||◌, List, [], ◌∷◌, map, length, sum, ◌==◌, nat_eq, nat_lt, slice_index}
 use Rattle.std.specs.List.{range_with_len}
 use Rattle.bits.specs.Sets.{in?, size}
 use Rattle.network.specs.Book.{BookMeaning}

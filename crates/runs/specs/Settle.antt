@@ -1,5 +1,5 @@
 -- Settling: the places revised in order, and what each revision leaves. Assumes nothing.
-use Rattle.std.specs.Prelude.{◌≡◌, ℕ, suc, ◌+◌, ◌-◌, ◌^◌, ◌<◌, min, ◌≢◌, List, [], ◌∷◌, length, set, bit_or, slice_index, slice_index_or, slice_set}
+use Rattle.std.specs.Prelude.{◌≡◌, ℕ, suc, ◌+◌, ◌-◌, ◌^◌, ◌<◌, min, ◌≢◌, List, [], ◌∷◌, length, bit_or, slice_index, slice_index_or, slice_set}
 use Rattle.bits.specs.Sets.{In}
 use Rattle.network.specs.Book.{BookMeaning, Supported, Remains}
 
