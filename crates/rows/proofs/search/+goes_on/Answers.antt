@@ -4,7 +4,7 @@ use Rattle.std.proofs.lemmas.Bool.Decides.{not_from_Decides}
 use Rattle.rows.specs.Support.{Allowed, Unstored}
 use Rattle.rows.proofs.Finding.{last_yes, last_no, step-yes, step-no}
 use Rattle.rows.proofs.search.+goes_on.Goals as goal
-use Rattle.rows.proofs.search.+goes_on.Goals.{then-has+else-goes-on, else-has}
+use Rattle.rows.proofs.search.+goes_on.Goals.{then-has+else-goes_on, else-has}
 
 pub returns-then-at-rule : goal.returns-then-at-rule
 returns-then-at-rule t c =
@@ -28,7 +28,7 @@ returns-then-goes_on t c = (
 pub loop-place-preserved : goal.loop-place-preserved
 loop-place-preserved t c =
     elim c.if-has.branch [
-      | then-has+else-goes-on w ↦
+      | then-has+else-goes_on w ↦
           λ u h. ⊎_elim
           (λ b. c.loop-place.invariant u b)
           (λ b. step-no c.args.bytes.now c.args.rule.now c.args.masks c.args.places c.args.at c.loop-place.place (omega arith)
