@@ -1,13 +1,13 @@
 -- What the search for a core comes to, over any relation of runs whose lines are right. Assumes nothing.
-use Rattle.std.proofs.Common.{◌≡◌, ℕ, zero, suc, ◌+◌, ◌-◌, ◌*◌, ◌/◌, ◌%◌, ◌^◌, ◌<◌, ◌≤◌, ◌≢◌, ◌⊎◌, List, [], ◌∷◌, ◌++◌, length, get_or, take, sym, refl, ap, ◌∙◌, subst, ap₂, inl, inr, ⊎_elim, mul-le-mul_right, add-mul, one-mul, pow-suc, arith, length-append}
+use Rattle.std.proofs.Common.{◌≡◌, ℕ, zero, suc, ◌+◌, ◌-◌, ◌*◌, ◌/◌, ◌^◌, ◌<◌, ◌≤◌, ◌⊎◌, List, [], ◌∷◌, ◌++◌, length, get_or, take, sym, refl, ap, ◌∙◌, subst, inl, inr, ⊎_elim, add-mul, one-mul, pow-suc, arith, length-append}
 use lib.Bits.{bit_or}
-use Rattle.std.proofs.lemmas.Bool.{cases_eq, cases_lt}
+use Rattle.std.proofs.lemmas.Bool.{cases_eq}
 use Rattle.std.proofs.lemmas.List.{take_all}
 use Rattle.bits.specs.Sets.{In, Subset, members, size, set_of}
 use Rattle.bits.proofs.Bits.{has_zero, out_same, out_other}
 use Rattle.runs.specs.declared.line.Line.{Line}
 use Rattle.runs.specs.Law.{Right}
-use Rattle.cores.specs.Core.{Core, Short, Each, Outcome, Outcome.left, Outcome.core, Ends, Promise}
+use Rattle.cores.specs.Core.{Core, Short, Each, Outcome, Promise}
 use Rattle.cores.specs.Fit.{with_first, with_rule, Lawful, Gives, Shrinks, Shrinks.all, Shrinks.fewer, Halves, Halves.met, Halves.down, Halves.up, Rounds, Rounds.alone, Rounds.round, Fit, Fit.fills, Fit.clashes}
 use Rattle.cores.proofs.SetFacts.{or_has, has_left, has_right, has_pow, or_subset, or_mono, has_first, has_set, set_empty, first_mono, first_more, member_has, members_subset, subset_members, size_le, size_lt, size_add, size_zero, subset_small}
 

@@ -1,12 +1,12 @@
 -- Sets of rules as masks: unions, members, sizes, first members. Assumes nothing.
-use Rattle.std.proofs.Common.{◌≡◌, ℕ, zero, suc, ◌+◌, ◌-◌, ◌*◌, ◌/◌, ◌%◌, ◌^◌, ◌<◌, ◌≤◌, Bool, true, false, cond, eqb, ◌≢◌, ◌⊎◌, List, [], ◌∷◌, ◌++◌, length, get_or, take, Decides, sym, refl, ap, ◌∙◌, subst, ap₂, inl, inr, ⊎_elim, mul-le-mul_right, mod-eq_of_lt, pow-suc, add-one, one-add, arith, length-append, pow_pos, pow_mono, pow-add}
-use native.Mathlib.Nat.{div-eq_of_lt, mod-le}
-use lib.Bits.{bit_and, bit_or, or_zero_r}
-use lib.Pow.{pow-lt, mod-pow-add}
-use Rattle.std.proofs.lemmas.Bool.{cases_order, cases_eq, cases_lt, cond_both, eqb-true, eqb-false, eq-eqb, ne_eqb}
-use Rattle.std.proofs.lemmas.List.{get_or_past, get_or_default, get_or_append_left, get_or-append_right, take_more, take_all, take-append-le, length_push, append-nil}
+use Rattle.std.proofs.Common.{◌≡◌, ℕ, zero, suc, ◌+◌, ◌-◌, ◌*◌, ◌/◌, ◌%◌, ◌^◌, ◌<◌, ◌≤◌, Bool, true, false, cond, eqb, ◌≢◌, ◌⊎◌, List, [], ◌∷◌, ◌++◌, length, get_or, take, Decides, sym, refl, ap, ◌∙◌, subst, ap₂, inl, inr, ⊎_elim, mul-le-mul_right, mod-eq_of_lt, pow-suc, add-one, one-add, arith, length-append, pow_mono}
+use native.Mathlib.Nat.{mod-le}
+use lib.Bits.{bit_or, or_zero_r}
+use lib.Pow.{mod-pow-add}
+use Rattle.std.proofs.lemmas.Bool.{cases_eq, cases_lt, cond_both, eqb-true, eqb-false, eq-eqb, ne_eqb}
+use Rattle.std.proofs.lemmas.List.{get_or_past, get_or_default, get_or_append_left, get_or-append_right, take_all, take-append-le, length_push, append-nil}
 use Rattle.bits.specs.Sets.{In, Subset, below, members, size, set_of}
-use Rattle.bits.proofs.Bits.{has_zero, has_le, out_same, out_other, mark_same, mark_more, or_bit, pow_other, pow_same}
+use Rattle.bits.proofs.Bits.{has_zero, has_le, mark_same, or_bit, pow_other, pow_same}
 
 -- what a test decides does not hold where the test fails
 pub decides_not : {P : Type 0} (r : Bool) → Decides r P → r ≡ false → P → ⊥

@@ -1,5 +1,5 @@
 -- A Fit's lines and its outcome follow from where it starts, if its runs do. Assumes nothing.
-use Rattle.std.proofs.Common.{◌≡◌, ℕ, ◌+◌, ◌-◌, ◌/◌, ◌<◌, List, [], ◌∷◌, ◌++◌, sym, refl, ap, ◌∙◌, subst, ap₂, subst₂, arith}
+use Rattle.std.proofs.Common.{◌≡◌, ℕ, ◌+◌, ◌-◌, ◌/◌, List, [], ◌∷◌, ◌++◌, sym, refl, ap, ◌∙◌, subst, ap₂, subst₂, arith}
 use Rattle.bits.specs.Sets.{members, size}
 use Rattle.runs.specs.declared.line.Line.{Line}
 use Rattle.cores.specs.Core.{Outcome, Outcome.left, Outcome.core}

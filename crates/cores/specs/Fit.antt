@@ -1,5 +1,5 @@
 -- A Fit's runs, over any relation of runs: R s l o t says that a run from the state s writes the line l, leaves o, and ends in the state t. Assumes nothing.
-use Rattle.std.specs.Prelude.{◌≡◌, ℕ, ◌+◌, ◌-◌, ◌/◌, ◌^◌, ◌<◌, ◌≢◌, List, [], ◌∷◌, ◌++◌, length, take, bit_or, slice_index}
+use Rattle.std.specs.Prelude.{◌≡◌, ℕ, ◌+◌, ◌-◌, ◌/◌, ◌^◌, ◌<◌, ◌≢◌, List, [], ◌∷◌, ◌++◌, take, bit_or, slice_index}
 use Rattle.bits.specs.Sets.{Subset, members, size, set_of}
 use Rattle.runs.specs.declared.line.Line.{Line}
 use Rattle.runs.specs.Law.{Right}

@@ -19,8 +19,8 @@ fn is_open(places: u64) -> bool
 
 /// Whether the rule has the cell, and another one that is open.
 fn joins<B: RuleBook>(book: &B, rule: u16, cell: u8, sets: &[u64]) -> bool
-    requires { Suits (meaning book.now) (length sets.now) }
-    ensures { result ≡ joins? sets.now cell ((meaning book.now).rule rule).cells }
+    requires { Suits (B.meaning book.now) (length sets.now) }
+    ensures { result ≡ joins? sets.now cell ((B.meaning book.now).rule rule).cells }
 {
     let mut here = false;
     let mut elsewhere = false;
@@ -37,9 +37,9 @@ fn joins<B: RuleBook>(book: &B, rule: u16, cell: u8, sets: &[u64]) -> bool
 
 /// The weighted degree of a cell: the sum of the weights of the listed rules that have it and another open cell.
 fn degree<B: RuleBook>(book: &B, listed: u64, weights: &[u32], sets: &[u64], cell: u8) -> u64
-    requires suits { Suits (meaning book.now) (length sets.now) }
+    requires suits { Suits (B.meaning book.now) (length sets.now) }
     requires weighted { 64 ≤ length weights.now }
-    ensures value { result ≡ degree_of (meaning book.now) listed sets.now weights.now cell }
+    ensures value { result ≡ degree_of (B.meaning book.now) listed sets.now weights.now cell }
     ensures small { result < 2 ^ 38 }
 {
     let mut sum = 0;
@@ -53,10 +53,10 @@ fn degree<B: RuleBook>(book: &B, listed: u64, weights: &[u32], sets: &[u64], cel
 
 /// The figure of a cell.
 fn figure<B: RuleBook>(book: &B, listed: u64, weights: &[u32], sets: &[u64], cell: u8) -> Figure
-    requires suits { Suits (meaning book.now) (length sets.now) }
+    requires suits { Suits (B.meaning book.now) (length sets.now) }
     requires weighted { 64 ≤ length weights.now }
     requires within { cell < length sets.now }
-    ensures { result ≡ figure_of (meaning book.now) listed sets.now weights.now cell }
+    ensures { result ≡ figure_of (B.meaning book.now) listed sets.now weights.now cell }
 {
     Figure {
         places: sets[cell as usize].count_ones() as u8,

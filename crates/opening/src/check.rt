@@ -29,7 +29,7 @@ fn are_listed(lengths: &[u8]) -> bool
 
 /// Whether every cell that the rule names is one of the first.
 fn is_within<B: RuleBook>(book: &B, rule: u16, cells: usize) -> bool
-    ensures { Decides result (Within ((meaning book.now).rule rule) cells) }
+    ensures { Decides result (Within ((B.meaning book.now).rule rule) cells) }
 {
     for position in 0..book.width(rule) {
         if book.cell(rule, position) as usize >= cells {
@@ -41,7 +41,7 @@ fn is_within<B: RuleBook>(book: &B, rule: u16, cells: usize) -> bool
 
 /// Whether every cell that a rule names is one of the first.
 fn are_named<B: RuleBook>(book: &B, cells: usize) -> bool
-    ensures { Decides result (Named (meaning book.now) cells) }
+    ensures { Decides result (Named (B.meaning book.now) cells) }
 {
     for rule in 0..book.count() {
         if !is_within(book, rule, cells) {
@@ -53,7 +53,7 @@ fn are_named<B: RuleBook>(book: &B, cells: usize) -> bool
 
 /// Whether a session may be opened over the lists, given by their lengths, and the book: the first reason to refuse it.
 pub fn check<B: RuleBook>(lengths: &[u8], book: &B) -> Result<(), Refusal>
-    ensures { Checked (sheet lengths.now (meaning book.now)) (said (to_change result)).number }
+    ensures { Checked (sheet lengths.now (B.meaning book.now)) (said (to_change result)).number }
 {
     if !are_listed(lengths) {
         return Err(Refusal::Lists);

@@ -26,11 +26,11 @@ fn revise_place<B: RuleBook>(
 ) -> Result<bool, Emptied>
     requires few { rule < 64 }
     requires small { place < 64 }
-    requires there { cell ≡ cell_at (meaning book.now) rule position }
+    requires there { cell ≡ cell_at (B.meaning book.now) rule position }
     requires within { cell < length sets.old }
     ensures { MatchResult result
-        (λ removed. Leads (Revises (meaning book.now) rule position place) sets.old used.old sets.new used.new × Report removed sets.old sets.new)
-        (λ e. (e.rule ≡ rule) × Spends (Empties (meaning book.now) rule position place) rule sets.old used.old sets.new used.new) }
+        (λ removed. Leads (Revises (B.meaning book.now) rule position place) sets.old used.old sets.new used.new × Report removed sets.old sets.new)
+        (λ e. (e.rule ≡ rule) × Spends (Empties (B.meaning book.now) rule position place) rule sets.old used.old sets.new used.new) }
 {
     let left = sets[cell as usize];
     if !has(left, place) {
@@ -66,10 +66,10 @@ fn revise_position<B: RuleBook>(
     used: &mut u64,
 ) -> Result<bool, Emptied>
     requires few { rule < 64 }
-    requires within { cell_at (meaning book.now) rule position < length sets.old }
+    requires within { cell_at (B.meaning book.now) rule position < length sets.old }
     ensures { MatchResult result
-        (λ removed. Leads (Position (meaning book.now) rule position) sets.old used.old sets.new used.new × Report removed sets.old sets.new)
-        (λ e. (e.rule ≡ rule) × Spends (PositionFails (meaning book.now) rule position) rule sets.old used.old sets.new used.new) }
+        (λ removed. Leads (Position (B.meaning book.now) rule position) sets.old used.old sets.new used.new × Report removed sets.old sets.new)
+        (λ e. (e.rule ≡ rule) × Spends (PositionFails (B.meaning book.now) rule position) rule sets.old used.old sets.new used.new) }
 {
     let cell = book.cell(rule, position);
     let mut removed = false;
@@ -87,10 +87,10 @@ pub(crate) fn revise_rule<B: RuleBook>(
     used: &mut u64,
 ) -> Result<bool, Emptied>
     requires few { rule < 64 }
-    requires suits { Suits (meaning book.now) (length sets.old) }
+    requires suits { Suits (B.meaning book.now) (length sets.old) }
     ensures { MatchResult result
-        (λ removed. Leads (Takes (meaning book.now) rule) sets.old used.old sets.new used.new × Report removed sets.old sets.new)
-        (λ e. (e.rule ≡ rule) × Spends (TakesFails (meaning book.now) rule) rule sets.old used.old sets.new used.new) }
+        (λ removed. Leads (Takes (B.meaning book.now) rule) sets.old used.old sets.new used.new × Report removed sets.old sets.new)
+        (λ e. (e.rule ≡ rule) × Spends (TakesFails (B.meaning book.now) rule) rule sets.old used.old sets.new used.new) }
 {
     let mut removed = false;
     for position in 0..book.width(rule) {

@@ -15,10 +15,10 @@ fn sweep<B: RuleBook>(
     sets: &mut [u64],
     used: &mut u64,
 ) -> Result<bool, Emptied>
-    requires { Suits (meaning book.now) (length sets.old) }
+    requires { Suits (B.meaning book.now) (length sets.old) }
     ensures { MatchResult result
-        (λ removed. Leads (Sweep (meaning book.now) listed) sets.old used.old sets.new used.new × Report removed sets.old sets.new)
-        (λ e. Spends (SweepFails (meaning book.now) listed e.rule) e.rule sets.old used.old sets.new used.new) }
+        (λ removed. Leads (Sweep (B.meaning book.now) listed) sets.old used.old sets.new used.new × Report removed sets.old sets.new)
+        (λ e. Spends (SweepFails (B.meaning book.now) listed e.rule) e.rule sets.old used.old sets.new used.new) }
 {
     let mut removed = false;
     for rule in 0..book.count() {
@@ -36,10 +36,10 @@ fn sweep_all<B: RuleBook>(
     sets: &mut [u64],
     used: &mut u64,
 ) -> Result<(), Emptied>
-    requires { Suits (meaning book.now) (length sets.old) }
+    requires { Suits (B.meaning book.now) (length sets.old) }
     ensures { MatchResult result
-        (λ _. Leads (Settles (meaning book.now) listed) sets.old used.old sets.new used.new)
-        (λ e. Spends (Fails (meaning book.now) listed e.rule) e.rule sets.old used.old sets.new used.new) }
+        (λ _. Leads (Settles (B.meaning book.now) listed) sets.old used.old sets.new used.new)
+        (λ e. Spends (Fails (B.meaning book.now) listed e.rule) e.rule sets.old used.old sets.new used.new) }
 {
     while sweep(book, listed, sets, used)? {}
     Ok(())
@@ -61,18 +61,18 @@ pub fn settle<B: RuleBook>(
     used: &mut u64,
     weights: &mut [u32],
 ) -> Result<(), Emptied>
-    requires suits { Suits (meaning book.now) (length sets.old) }
+    requires suits { Suits (B.meaning book.now) (length sets.old) }
     requires full { Full sets.old }
     requires weighted { 64 ≤ length weights.old }
     ensures steps { MatchResult result
-        (λ _. Settles (meaning book.now) listed (state sets.old used.old weights.old) (state sets.new used.new weights.new))
-        (λ e. Fails (meaning book.now) listed e.rule (state sets.old used.old weights.old) (state sets.new used.new weights.new)) }
+        (λ _. Settles (B.meaning book.now) listed (state sets.old used.old weights.old) (state sets.new used.new weights.new))
+        (λ e. Fails (B.meaning book.now) listed e.rule (state sets.old used.old weights.old) (state sets.new used.new weights.new)) }
     ensures only { MatchResult result
-        (λ _. OnlySettles (meaning book.now) listed (state sets.old used.old weights.old) (state sets.new used.new weights.new))
-        (λ e. OnlyFails (meaning book.now) listed e.rule (state sets.old used.old weights.old) (state sets.new used.new weights.new)) }
+        (λ _. OnlySettles (B.meaning book.now) listed (state sets.old used.old weights.old) (state sets.new used.new weights.new))
+        (λ e. OnlyFails (B.meaning book.now) listed e.rule (state sets.old used.old weights.old) (state sets.new used.new weights.new)) }
     ensures law { MatchResult result
-        (λ _. Settled (meaning book.now) listed (state sets.old used.old weights.old) (state sets.new used.new weights.new))
-        (λ e. Clash (meaning book.now) listed (state sets.old used.old weights.old) (state sets.new used.new weights.new)) }
+        (λ _. Settled (B.meaning book.now) listed (state sets.old used.old weights.old) (state sets.new used.new weights.new))
+        (λ e. Clash (B.meaning book.now) listed (state sets.old used.old weights.old) (state sets.new used.new weights.new)) }
     ensures less { total sets.new ≤ total sets.old }
 {
     match sweep_all(book, listed, sets, used) {

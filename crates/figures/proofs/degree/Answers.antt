@@ -12,7 +12,7 @@ loop-rule-preserved g c =
     elim c.if-has.branch [
       | then-has+then-joins w ↦
           adds m c.args.listed c.args.sets.now c.args.weights.now c.args.cell r (c.has.ensures.0 w.if-has.true).1
-          (sym w.joins.ensures ∙ w.if-joins.true) (c.type-inv.weights r).fits c.loop-rule.invariant w.sum-is
+          (sym w.joins.ensures ∙ w.if-joins.true) (c.type_inv.weights r).fits c.loop-rule.invariant w.sum-is
       | else-has w ↦
           elim w.else-has.branch [
             | else-has-via-then-has+else-joins w' ↦

@@ -7,4 +7,4 @@ abbrev figure : ℕ → ℕ → Figure
 figure places degree = record { places = places; degree = degree }
 
 pub returns : goal.returns
-returns g c = ap₂ figure (ones_size (get_or c.args.sets.now c.args.cell 0) (c.type-inv.sets c.args.cell).fits) c.degree.ensures.value
+returns g c = ap₂ figure (ones_size (get_or c.args.sets.now c.args.cell 0) (c.type_inv.sets c.args.cell).fits) c.degree.ensures.value

@@ -16,8 +16,8 @@ returns c =
     let cells = numbered (λ k n. cell_line k (list_in all.numbers k n)) 0 lengths in
     let rows = numbered (λ r rule. rows_line r (field_of all.places rule)) 0 rules in
     let formulas = formula_lines (length rules) (all_fields s) in
-    after (vec_items c.args.out.now) cells (rows ++ formulas) c.in-ok-push_cells.ensures
-    (after (vec_items c.push_cells.new.out) rows formulas c.in-ok-push_rules.ensures
+    after (vec_items c.args.out.now) cells (rows ++ formulas) c.in_ok-push_cells.ensures
+    (after (vec_items c.push_cells.new.out) rows formulas c.in_ok-push_rules.ensures
     (wrote (all_fields s) (few all c.args.extent s h rules are) (is ∙ file_fields s)))
     ∙ ap (λ x. vec_items c.args.out.now ++ x) (listing-same all c.args.extent s h rules are lengths (c.lengths.ensures.means s h)))
     c.push_formulas.ensures

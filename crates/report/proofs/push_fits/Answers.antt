@@ -17,15 +17,15 @@ loop-cell-init c = cells_none (line c.args.numbers.now c.args.filling.now) (vec_
 pub loop-cell-preserved : goal.loop-cell-preserved
 loop-cell-preserved c =
     let place = ap (λ v. get_or c.args.numbers.now (64 * c.loop-cell.cell + v) (pos 0)) c.place_of.ensures in
-    let number = to_z-of_z w32 c.number_at.result (record { sfits = c.number_at.type-inv }) ∙ c.number_at.ensures ∙ place in
+    let number = to_z-of_z w32 c.number_at.result (record { sfits = c.number_at.type_inv }) ∙ c.number_at.ensures ∙ place in
     cells_more (line c.args.numbers.now c.args.filling.now) c.loop-cell.cell (vec_items c.push_bytes-2.new.out) (vec_items c.loop-cell.out) (vec_items c.push_cell.new.out) c.loop-cell.invariant
-    (c.in-ok-push_cell.ensures ∙ ap (λ z. vec_items c.loop-cell.out ++ cell_line c.loop-cell.cell z) number)
+    (c.in_ok-push_cell.ensures ∙ ap (λ z. vec_items c.loop-cell.out ++ cell_line c.loop-cell.cell z) number)
 
 pub returns : goal.returns
 returns c =
     let rest = flat_map (line c.args.numbers.now c.args.filling.now) (range_with_len 0 c.args.cells) in
     let end : c.loop-cell.cell ≡ c.args.cells = omega arith in
     let last : vec_items c.loop-cell.out ≡ vec_items c.push_bytes-2.new.out ++ rest = c.loop-cell.invariant ∙ ap (λ n. vec_items c.push_bytes-2.new.out ++ flat_map (line c.args.numbers.now c.args.filling.now) (range_with_len 0 n)) end in
-    after (vec_items c.args.out.now) (codes "FITS ") (numeral c.args.lines ++ (10 ∷ rest)) c.in-ok-push_bytes.ensures
-    (after (vec_items c.push_bytes.new.out) (numeral c.args.lines) (10 ∷ rest) c.in-ok-push_digits.ensures
-    (after (vec_items c.push_digits.new.out) (10 ∷ []) rest c.in-ok-push_bytes-2.ensures last))
+    after (vec_items c.args.out.now) (codes "FITS ") (numeral c.args.lines ++ (10 ∷ rest)) c.in_ok-push_bytes.ensures
+    (after (vec_items c.push_bytes.new.out) (numeral c.args.lines) (10 ∷ rest) c.in_ok-push_digits.ensures
+    (after (vec_items c.push_digits.new.out) (10 ∷ []) rest c.in_ok-push_bytes-2.ensures last))

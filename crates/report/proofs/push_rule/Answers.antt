@@ -17,7 +17,7 @@ returns c =
     let n = numeral c.from.result in
     let there : in? c.args.core c.args.rule ≡ true = eq-eqb _ 1 (c.if-not-has.ensures.0 refl).1 in
     made_so c.push_bytes-2.result
-    (λ e. after (vec_items c.args.out.now) (codes "rule ") (n ++ (10 ∷ [])) c.in-ok-push_bytes.ensures
-    (after (vec_items c.push_bytes.new.out) n (10 ∷ []) c.in-ok-push_digits.ensures e)
+    (λ e. after (vec_items c.args.out.now) (codes "rule ") (n ++ (10 ∷ [])) c.in_ok-push_bytes.ensures
+    (after (vec_items c.push_bytes.new.out) n (10 ∷ []) c.in_ok-push_digits.ensures e)
     ∙ ap (λ i. vec_items c.args.out.now ++ rule_line i) c.from.ensures
     ∙ ap (λ l. vec_items c.args.out.now ++ l) (sym (cond-true (in? c.args.core c.args.rule) (rule_line c.args.rule) [] there))) c.push_bytes-2.ensures

@@ -36,6 +36,6 @@ pub returns : goal.returns
 returns c =
     let content = c.args.content.now in
     let cs = c.split_at.result.0.now in
-    headed content c.args.count c.in-ok-kind.kind cs c.split_at.result.1.now (omega arith) c.in-ok-kind.ensures c.split_at.ensures.front-len c.split_at.ensures.by_index.0
+    headed content c.args.count c.in_ok-kind.kind cs c.split_at.result.1.now (omega arith) c.in_ok-kind.ensures c.split_at.ensures.front-len c.split_at.ensures.by_index.0
     (c.are_known.ensures.0 c.if-not-are_known.false)
     (subst (λ (l : List ℕ). GoodCells (get_or content 1 0) l) c.stored.ensures (c.are_good.ensures.0 c.if-not-are_good.false))

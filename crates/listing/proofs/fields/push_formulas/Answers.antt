@@ -10,10 +10,10 @@ loop-rest-preserved c fs few e =
     let rest = c.loop-rest.rest.now in
     let end : ℕ = 3 + c.min-end.result in
     let after : List ℕ = vec_items c.push_field.new.out in
-    subst (λ x. Left text x after c.in-ok-number.number) (sym (take_rest rest end))
-    (left_more text rest (vec_items c.loop-rest.out) c.loop-rest.number (get_or rest 0 0) c.from.result c.from-in-loop-rest.result c.min-end.result end c.in-ok-number.number after
+    subst (λ x. Left text x after c.in_ok-number.number) (sym (take_rest rest end))
+    (left_more text rest (vec_items c.loop-rest.out) c.loop-rest.number (get_or rest 0 0) c.from.result c.from-in-loop-rest.result c.min-end.result end c.in_ok-number.number after
     c.loop-rest-test.true refl (sym c.from.ensures) (sym c.from-in-loop-rest.ensures) c.min-end.ensures refl
-    c.in-ok-number.ensures.0 c.in-ok-number.ensures.1 (c.loop-rest.invariant fs few e))
+    c.in_ok-number.ensures.0 c.in_ok-number.ensures.1 (c.loop-rest.invariant fs few e))
 
 pub returns : goal.returns
 returns c fs few e =

@@ -10,7 +10,7 @@ returns c =
     let zs = flat_map (λ z. 32 ∷ number_text z) c.args.numbers.now in
     made_so c.push_bytes-3.result
     (λ e.
-    after (vec_items c.args.out.now) (67 ∷ []) (n ++ (58 ∷ (zs ++ (10 ∷ [])))) c.in-ok-push_bytes.ensures
-    (after (vec_items c.push_bytes.new.out) n (58 ∷ (zs ++ (10 ∷ []))) c.in-ok-push_digits.ensures
-    (after (vec_items c.push_digits.new.out) (58 ∷ []) (zs ++ (10 ∷ [])) c.in-ok-push_bytes-2.ensures
-    (after (vec_items c.push_bytes-2.new.out) zs (10 ∷ []) c.in-ok-push_numbers.ensures e)))) c.push_bytes-3.ensures
+    after (vec_items c.args.out.now) (67 ∷ []) (n ++ (58 ∷ (zs ++ (10 ∷ [])))) c.in_ok-push_bytes.ensures
+    (after (vec_items c.push_bytes.new.out) n (58 ∷ (zs ++ (10 ∷ []))) c.in_ok-push_digits.ensures
+    (after (vec_items c.push_digits.new.out) (58 ∷ []) (zs ++ (10 ∷ [])) c.in_ok-push_bytes-2.ensures
+    (after (vec_items c.push_bytes-2.new.out) zs (10 ∷ []) c.in_ok-push_numbers.ensures e)))) c.push_bytes-3.ensures

@@ -11,7 +11,7 @@ loop-cell-preserved c =
     let numbers = c.args.numbers.now in
     numbered_more c.args.lengths.now i 0 c.from.result c.loop-cell-test.true (sym c.from.ensures) (vec_items c.args.out.now) u (vec_items c.push_cell.new.out)
     (λ k n. cell_line k (list_in numbers k n)) c.loop-cell.invariant
-    (c.in-ok-push_cell.ensures ∙ ap (λ x. u ++ cell_line i x) (c.part-list.ensures ∙ ap (take c.from.result) (drop_cut numbers (64 * i) c.saturating_mul.result 18446744073709551615 (omega arith) (omega arith))))
+    (c.in_ok-push_cell.ensures ∙ ap (λ x. u ++ cell_line i x) (c.part-list.ensures ∙ ap (take c.from.result) (drop_cut numbers (64 * i) c.saturating_mul.result 18446744073709551615 (omega arith) (omega arith))))
 
 pub returns : goal.returns
 returns c =

@@ -12,7 +12,7 @@ loop-number-preserved c =
     let fits : SFits w32 z = search rules in
     joined_more c.args.numbers.now c.loop-number.number-index (pos 0) z c.loop-number-test.true refl (vec_items c.args.out.now) u (vec_items c.push_number.new.out)
     (λ v. 32 ∷ number_text v) c.loop-number.invariant
-    (after u (32 ∷ []) (number_text z) c.in-ok-push_bytes.ensures (c.in-ok-push_number.ensures ∙ ap (λ x. vec_items c.push_bytes.new.out ++ number_text x) (to_z-of_z w32 z fits)))
+    (after u (32 ∷ []) (number_text z) c.in_ok-push_bytes.ensures (c.in_ok-push_number.ensures ∙ ap (λ x. vec_items c.push_bytes.new.out ++ number_text x) (to_z-of_z w32 z fits)))
 
 pub returns : goal.returns
 returns c = joined_whole c.args.numbers.now c.loop-number.number-index c.loop-number-test.false (vec_items c.args.out.now) (vec_items c.loop-number.out) (λ v. 32 ∷ number_text v) c.loop-number.invariant

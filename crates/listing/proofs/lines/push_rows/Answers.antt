@@ -10,8 +10,8 @@ loop-row-preserved c =
     let places = c.args.places.now in
     let comma = vec_items c.push_comma.new.out in
     row_more (λ j. take rule.width (drop (rule.start + j * rule.width) places)) c.loop-row.row (vec_items c.args.out.now) (vec_items c.loop-row.out) comma (vec_items c.push_each.new.out)
-    c.loop-row.invariant c.in-ok-push_comma.ensures
-    (c.in-ok-push_each.ensures ∙ ap (λ x. comma ++ row_text x) (c.part.ensures ∙ ap (λ n. take n (drop (rule.start + c.loop-row.row * n) places)) c.from-width.ensures))
+    c.loop-row.invariant c.in_ok-push_comma.ensures
+    (c.in_ok-push_each.ensures ∙ ap (λ x. comma ++ row_text x) (c.part.ensures ∙ ap (λ n. take n (drop (rule.start + c.loop-row.row * n) places)) c.from-width.ensures))
 
 pub returns : goal.returns
 returns c =

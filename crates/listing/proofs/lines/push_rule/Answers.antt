@@ -18,9 +18,9 @@ returns c =
     let cells : c.part.result.now ≡ take rule.width rule.cells = c.part.ensures ∙ ap (λ m. take m rule.cells) c.from.ensures in
     made_so c.push_bytes-3.result
     (λ e.
-    after (vec_items c.args.out.now) (codes "rule ") (n ++ (k ++ (ns ++ (58 ∷ (rs ++ (10 ∷ [])))))) c.in-ok-push_bytes.ensures
-    (after (vec_items c.push_bytes.new.out) n (k ++ (ns ++ (58 ∷ (rs ++ (10 ∷ []))))) c.in-ok-push_digits.ensures
-    (after (vec_items c.push_digits.new.out) k (ns ++ (58 ∷ (rs ++ (10 ∷ [])))) c.in-ok-push_kind.ensures
-    (after (vec_items c.push_kind.new.out) ns (58 ∷ (rs ++ (10 ∷ []))) (c.in-ok-push_each.ensures ∙ ap (λ x. vec_items c.push_kind.new.out ++ names x) cells)
-    (after (vec_items c.push_each.new.out) (58 ∷ []) (rs ++ (10 ∷ [])) c.in-ok-push_bytes-2.ensures
-    (after (vec_items c.push_bytes-2.new.out) rs (10 ∷ []) c.in-ok-push_rows.ensures e)))))) c.push_bytes-3.ensures
+    after (vec_items c.args.out.now) (codes "rule ") (n ++ (k ++ (ns ++ (58 ∷ (rs ++ (10 ∷ [])))))) c.in_ok-push_bytes.ensures
+    (after (vec_items c.push_bytes.new.out) n (k ++ (ns ++ (58 ∷ (rs ++ (10 ∷ []))))) c.in_ok-push_digits.ensures
+    (after (vec_items c.push_digits.new.out) k (ns ++ (58 ∷ (rs ++ (10 ∷ [])))) c.in_ok-push_kind.ensures
+    (after (vec_items c.push_kind.new.out) ns (58 ∷ (rs ++ (10 ∷ []))) (c.in_ok-push_each.ensures ∙ ap (λ x. vec_items c.push_kind.new.out ++ names x) cells)
+    (after (vec_items c.push_each.new.out) (58 ∷ []) (rs ++ (10 ∷ [])) c.in_ok-push_bytes-2.ensures
+    (after (vec_items c.push_bytes-2.new.out) rs (10 ∷ []) c.in_ok-push_rows.ensures e)))))) c.push_bytes-3.ensures

@@ -6,7 +6,7 @@ use Rattle.listing.proofs.lines.push_rules.Goals as goal
 pub loop-number-preserved : goal.loop-number-preserved
 loop-number-preserved c =
     numbered_more c.args.rules.now c.loop-number.number _ _ c.loop-number-test.true refl (vec_items c.args.out.now) (vec_items c.loop-number.out) (vec_items c.push_rule.new.out)
-    (λ r rule. rows_line r (field_of c.args.places.now rule)) c.loop-number.invariant c.in-ok-push_rule.ensures
+    (λ r rule. rows_line r (field_of c.args.places.now rule)) c.loop-number.invariant c.in_ok-push_rule.ensures
 
 pub returns : goal.returns
 returns c =

@@ -7,7 +7,7 @@ use Rattle.load.proofs.content.cell.Goals as goal
 pub returns : goal.returns
 returns c = record {
   sized = record {
-    lengths = length-set c.args.stores.now.lengths.now c.args.extent.cells c.in-ok-length.length;
+    lengths = length-set c.args.stores.now.lengths.now c.args.extent.cells c.in_ok-length.length;
     numbers = length_part _ _ c.args.stores.now.numbers.now c.read_list.new.numbers (omega arith) c.read_list.auto.numbers;
     rules = refl;
     places = refl;
@@ -15,7 +15,7 @@ returns c = record {
     nodes = refl;
   };
   adds = λ before s enough good is at.
-      let k = c.in-ok-length.ensures in
+      let k = c.in_ok-length.ensures in
       record {
         list = k.list;
         good = k.good;
@@ -25,10 +25,10 @@ returns c = record {
       };
 }
 
-pub returns-in-err-length : goal.returns-in-err-length
-returns-in-err-length c =
+pub returns-in_err-length : goal.returns-in_err-length
+returns-in_err-length c =
     let p = err_from_is_err_and c.from-residual.result c.from-residual.ensures.1 in
-    let k = c.in-err-length.ensures in
+    let k = c.in_err-length.ensures in
     record {
       sized = record {
         lengths = refl;

@@ -17,14 +17,14 @@ returns c = record {
     numbers = refl;
     rules = refl;
     places = refl;
-    formulas = length-set c.args.stores.now.formulas.now c.args.extent.formulas c.in-ok-formula.formula;
+    formulas = length-set c.args.stores.now.formulas.now c.args.extent.formulas c.in_ok-formula.formula;
     nodes = length_front 32768 c.args.stores.now.nodes.now c.read_formula.new.nodes c.requires.enough.nodes c.read_formula.auto.nodes;
   };
   adds = λ before s enough good is at.
-      let k = c.in-ok-formula.ensures in
+      let k = c.in_ok-formula.ensures in
       let cells : c.args.extent.cells ≡ length s.lists = ap (λ (x : Extent). x.cells) at in
       let fits : c.args.extent.nodes + size k.is ≤ 32768 = omega (arith, size_text k.is, ap length k.accepted.said, c.requires.nodes) in
-      let made : c.in-ok-formula.formula ≡ formula_of c.args.extent.nodes k.is = λ i. record { root = k.root i; width = k.width i; cells = k.named i } in
+      let made : c.in_ok-formula.formula ≡ formula_of c.args.extent.nodes k.is = λ i. record { root = k.root i; width = k.width i; cells = k.named i } in
       record {
         formula = k.is;
         good = subst (λ n. Accepted n (text k.is) k.is) cells (subst (λ l. Accepted c.args.extent.cells l k.is) k.accepted.said k.accepted);
@@ -34,8 +34,8 @@ returns c = record {
       };
 }
 
-pub returns-in-err-formula : goal.returns-in-err-formula
-returns-in-err-formula c =
+pub returns-in_err-formula : goal.returns-in_err-formula
+returns-in_err-formula c =
     let p = err_from_is_err_and c.from-residual.result c.from-residual.ensures.1 in
     record {
       sized = record {
@@ -47,12 +47,12 @@ returns-in-err-formula c =
         nodes = length_front 32768 c.args.stores.now.nodes.now c.read_formula.new.nodes c.requires.enough.nodes c.read_formula.auto.nodes;
       };
       adds = λ before s enough good is at.
-          let k = c.in-err-formula.ensures in
+          let k = c.in_err-formula.ensures in
           let cells : c.args.extent.cells ≡ length s.lists = ap (λ (x : Extent). x.cells) at in
           rw (p.1, p.2) ((
-            c.in-err-formula.field-0.0.flaw,
+            c.in_err-formula.field-0.0.flaw,
             k.at,
-            subst (λ n. First n c.args.content.now c.in-err-formula.field-0.0.flaw k.at) cells k.first,
-            (λ i. InFormula (record { flaw = c.in-err-formula.field-0.0.flaw; offset = k.place i })),
+            subst (λ n. First n c.args.content.now c.in_err-formula.field-0.0.flaw k.at) cells k.first,
+            (λ i. InFormula (record { flaw = c.in_err-formula.field-0.0.flaw; offset = k.place i })),
           ));
     }

@@ -26,8 +26,8 @@ returns-then-file-at-lt3 c = record {
   decided = λ s e. cut s c.args.extent e c.args.file.now c.args.at c.in-Some.tag c.if-at-file.false c.in-Some.ensures (c.if-not-comes.ensures.0 refl) (omega arith);
 }
 
-pub returns-in-err-check_end : goal.returns-in-err-check_end
-returns-in-err-check_end c =
+pub returns-in_err-check_end : goal.returns-in_err-check_end
+returns-in_err-check_end c =
     let p = err_from_is_err_and c.from-residual.result c.from-residual.ensures.1 in
     let room : c.args.at + 3 ≤ length c.args.file.now = omega arith in
     let four = ap tag_byte c.in-End.is in
@@ -38,12 +38,12 @@ returns-in-err-check_end c =
           ⊎_elim
           (λ a. subst (Wrong s c.args.at (drop c.args.at c.args.file.now)) (sym a.0) (long s c.args.extent e c.args.file.now c.args.at c.in-Some.tag c.in-Some.ensures room four a.1))
           (λ a. subst (Wrong s c.args.at (drop c.args.at c.args.file.now)) (sym a.0) (beyond s c.args.extent e c.args.file.now c.args.at c.in-Some.tag c.in-Some.ensures room four a.1 a.2))
-          c.in-err-check_end.ensures;
+          c.in_err-check_end.ensures;
     })
 
-pub returns-in-err-check_content : goal.returns-in-err-check_content
-returns-in-err-check_content c =
-    let p = err_from_is_err_and c.from-residual-in-err-check_content.result c.from-residual-in-err-check_content.ensures.1 in
+pub returns-in_err-check_content : goal.returns-in_err-check_content
+returns-in_err-check_content c =
+    let p = err_from_is_err_and c.from-residual-in_err-check_content.result c.from-residual-in_err-check_content.ensures.1 in
     let room : c.args.at + 3 ≤ length c.args.file.now = omega arith in
     let other = not_end c.in-Some.tag c.in-Cell.is in
     rw (p.1, p.2) (record {
@@ -53,12 +53,12 @@ returns-in-err-check_content c =
           ⊎_elim
           (λ a. subst (Wrong s c.args.at (drop c.args.at c.args.file.now)) (sym a.0) (short s c.args.extent e c.args.file.now c.args.at c.in-Some.tag c.in-Some.ensures room other (c.if-not-comes.ensures.0 refl) a.1))
           (λ a. subst (Wrong s c.args.at (drop c.args.at c.args.file.now)) (sym a.0) (surplus s c.args.extent e c.args.file.now c.args.at c.in-Some.tag c.in-Some.ensures room other (c.if-not-comes.ensures.0 refl) a.1 a.2))
-          c.in-err-check_content.ensures;
+          c.in_err-check_content.ensures;
     })
 
-pub returns-in-ok-check_end : goal.returns-in-ok-check_end
-returns-in-ok-check_end c =
-    let k = c.in-ok-check_end.ensures in
+pub returns-in_ok-check_end : goal.returns-in_ok-check_end
+returns-in_ok-check_end c =
+    let k = c.in_ok-check_end.ensures in
     let room : c.args.at + 3 ≤ length c.args.file.now = omega arith in
     record {
       inside = omega (arith, k.0, k.1);
@@ -66,9 +66,9 @@ returns-in-ok-check_end c =
       decided = λ s e. headed_end s _ c.in-Some.tag c.in-End.is (ended s c.args.extent e c.args.file.now c.args.at c.in-Some.tag c.in-Some.ensures room (ap tag_byte c.in-End.is) k.0 k.1);
     }
 
-pub returns-in-ok-check_content : goal.returns-in-ok-check_content
-returns-in-ok-check_content c =
-    let k = c.in-ok-check_content.ensures in
+pub returns-in_ok-check_content : goal.returns-in_ok-check_content
+returns-in_ok-check_content c =
+    let k = c.in_ok-check_content.ensures in
     let room : c.args.at + 3 ≤ length c.args.file.now = omega arith in
     let other = not_end c.in-Some.tag c.in-Cell.is in
     record {

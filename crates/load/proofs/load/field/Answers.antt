@@ -7,83 +7,83 @@ use Rattle.load.specs.Fields.{Headed}
 use Rattle.load.proofs.Steps.{advance-list, advance-rows, advance-formula, refuse_list, refuse_rows, refuse_formula}
 use Rattle.load.proofs.load.field.Goals as goal
 
-pub returns-in-ok-extent : goal.returns-in-ok-extent
-returns-in-ok-extent c = record {
-  sized = c.in-ok-extent.ensures.sized;
+pub returns-in_ok-extent : goal.returns-in_ok-extent
+returns-in_ok-extent c = record {
+  sized = c.in_ok-extent.ensures.sized;
   advances = λ before s enough begun is at.
       let file = c.args.file.now in
-      let head = c.in-ok-head.head in
-      let next = subst (λ t. Headed s (drop c.args.at file) t head.length) c.in-Cell.is (c.in-ok-head.ensures.decided s at) in
+      let head = c.in_ok-head.head in
+      let next = subst (λ t. Headed s (drop c.args.at file) t head.length) c.in-Cell.is (c.in_ok-head.ensures.decided s at) in
       let size : c.args.at + 3 + head.length - (c.args.at + 3) ≡ head.length = omega arith in
       let part = ap (λ n. take n (drop (c.args.at + 3) file)) size in
-      let k = c.in-ok-extent.ensures.adds before s enough begun.good is at in
-      advance-list file c.args.at s begun 1 head.length next _ part (c.type-inv.file (c.args.at + 2)).fits before _ _ refl k;
+      let k = c.in_ok-extent.ensures.adds before s enough begun.good is at in
+      advance-list file c.args.at s begun 1 head.length next _ part (c.type_inv.file (c.args.at + 2)).fits before _ _ refl k;
 }
 
-pub returns-in-err-extent : goal.returns-in-err-extent
-returns-in-err-extent c = record {
-  sized = c.in-err-extent.ensures.sized;
+pub returns-in_err-extent : goal.returns-in_err-extent
+returns-in_err-extent c = record {
+  sized = c.in_err-extent.ensures.sized;
   advances = λ before s enough begun is at.
-      let p = err_from_is_err_and c.from-residual-in-err-extent.result c.from-residual-in-err-extent.ensures.1 in
+      let p = err_from_is_err_and c.from-residual-in_err-extent.result c.from-residual-in_err-extent.ensures.1 in
       let file = c.args.file.now in
-      let head = c.in-ok-head.head in
-      let next = subst (λ t. Headed s (drop c.args.at file) t head.length) c.in-Cell.is (c.in-ok-head.ensures.decided s at) in
+      let head = c.in_ok-head.head in
+      let next = subst (λ t. Headed s (drop c.args.at file) t head.length) c.in-Cell.is (c.in_ok-head.ensures.decided s at) in
       let size : c.args.at + 3 + head.length - (c.args.at + 3) ≡ head.length = omega arith in
       let part = ap (λ n. take n (drop (c.args.at + 3) file)) size in
-      let k = c.in-err-extent.ensures.adds before s enough begun.good is at in
-      rw (p.1, p.2) (subst (λ e. RefusedWith file (Rule e)) (sym k.0) (refuse_list file c.args.at s begun 1 head.length next _ part (c.type-inv.file (c.args.at + 2)).fits refl k.1));
+      let k = c.in_err-extent.ensures.adds before s enough begun.good is at in
+      rw (p.1, p.2) (subst (λ e. RefusedWith file (Rule e)) (sym k.0) (refuse_list file c.args.at s begun 1 head.length next _ part (c.type_inv.file (c.args.at + 2)).fits refl k.1));
 }
 
-pub returns-in-ok-extent-2 : goal.returns-in-ok-extent-2
-returns-in-ok-extent-2 c = record {
-  sized = c.in-ok-extent-2.ensures.sized;
+pub returns-in_ok-extent-2 : goal.returns-in_ok-extent-2
+returns-in_ok-extent-2 c = record {
+  sized = c.in_ok-extent-2.ensures.sized;
   advances = λ before s enough begun is at.
       let file = c.args.file.now in
-      let head = c.in-ok-head.head in
-      let next = subst (λ t. Headed s (drop c.args.at file) t head.length) c.in-Rows.is (c.in-ok-head.ensures.decided s at) in
+      let head = c.in_ok-head.head in
+      let next = subst (λ t. Headed s (drop c.args.at file) t head.length) c.in-Rows.is (c.in_ok-head.ensures.decided s at) in
       let size : c.args.at + 3 + head.length - (c.args.at + 3) ≡ head.length = omega arith in
       let part = ap (λ n. take n (drop (c.args.at + 3) file)) size in
-      let k = c.in-ok-extent-2.ensures.adds before s enough begun.good is at in
-      advance-rows file c.args.at s begun 2 head.length next _ part (c.type-inv.file (c.args.at + 2)).fits before _ _ refl k;
+      let k = c.in_ok-extent-2.ensures.adds before s enough begun.good is at in
+      advance-rows file c.args.at s begun 2 head.length next _ part (c.type_inv.file (c.args.at + 2)).fits before _ _ refl k;
 }
 
-pub returns-in-err-extent-2 : goal.returns-in-err-extent-2
-returns-in-err-extent-2 c = record {
-  sized = c.in-err-extent-2.ensures.sized;
+pub returns-in_err-extent-2 : goal.returns-in_err-extent-2
+returns-in_err-extent-2 c = record {
+  sized = c.in_err-extent-2.ensures.sized;
   advances = λ before s enough begun is at.
-      let p = err_from_is_err_and c.from-residual-in-err-extent-2.result c.from-residual-in-err-extent-2.ensures.1 in
+      let p = err_from_is_err_and c.from-residual-in_err-extent-2.result c.from-residual-in_err-extent-2.ensures.1 in
       let file = c.args.file.now in
-      let head = c.in-ok-head.head in
-      let next = subst (λ t. Headed s (drop c.args.at file) t head.length) c.in-Rows.is (c.in-ok-head.ensures.decided s at) in
+      let head = c.in_ok-head.head in
+      let next = subst (λ t. Headed s (drop c.args.at file) t head.length) c.in-Rows.is (c.in_ok-head.ensures.decided s at) in
       let size : c.args.at + 3 + head.length - (c.args.at + 3) ≡ head.length = omega arith in
       let part = ap (λ n. take n (drop (c.args.at + 3) file)) size in
-      let k = c.in-err-extent-2.ensures.adds before s enough begun.good is at in
-      rw (p.1, p.2) (subst (λ e. RefusedWith file (Rule e)) (sym k.0) (refuse_rows file c.args.at s begun 2 head.length next _ part (c.type-inv.file (c.args.at + 2)).fits refl k.1));
+      let k = c.in_err-extent-2.ensures.adds before s enough begun.good is at in
+      rw (p.1, p.2) (subst (λ e. RefusedWith file (Rule e)) (sym k.0) (refuse_rows file c.args.at s begun 2 head.length next _ part (c.type_inv.file (c.args.at + 2)).fits refl k.1));
 }
 
-pub returns-in-ok-extent-3 : goal.returns-in-ok-extent-3
-returns-in-ok-extent-3 c = record {
-  sized = c.in-ok-extent-3.ensures.sized;
+pub returns-in_ok-extent-3 : goal.returns-in_ok-extent-3
+returns-in_ok-extent-3 c = record {
+  sized = c.in_ok-extent-3.ensures.sized;
   advances = λ before s enough begun is at.
       let file = c.args.file.now in
-      let head = c.in-ok-head.head in
-      let next = subst (λ t. Headed s (drop c.args.at file) t head.length) c.in-Formula.is (c.in-ok-head.ensures.decided s at) in
+      let head = c.in_ok-head.head in
+      let next = subst (λ t. Headed s (drop c.args.at file) t head.length) c.in-Formula.is (c.in_ok-head.ensures.decided s at) in
       let size : c.args.at + 3 + head.length - (c.args.at + 3) ≡ head.length = omega arith in
       let part = ap (λ n. take n (drop (c.args.at + 3) file)) size in
-      let k = c.in-ok-extent-3.ensures.adds before s enough begun.good is at in
-      advance-formula file c.args.at s begun 3 head.length next _ part (c.type-inv.file (c.args.at + 2)).fits before _ _ refl k;
+      let k = c.in_ok-extent-3.ensures.adds before s enough begun.good is at in
+      advance-formula file c.args.at s begun 3 head.length next _ part (c.type_inv.file (c.args.at + 2)).fits before _ _ refl k;
 }
 
-pub returns-in-err-extent-3 : goal.returns-in-err-extent-3
-returns-in-err-extent-3 c = record {
-  sized = c.in-err-extent-3.ensures.sized;
+pub returns-in_err-extent-3 : goal.returns-in_err-extent-3
+returns-in_err-extent-3 c = record {
+  sized = c.in_err-extent-3.ensures.sized;
   advances = λ before s enough begun is at.
-      let p = err_from_is_err_and c.from-residual-in-err-extent-3.result c.from-residual-in-err-extent-3.ensures.1 in
+      let p = err_from_is_err_and c.from-residual-in_err-extent-3.result c.from-residual-in_err-extent-3.ensures.1 in
       let file = c.args.file.now in
-      let head = c.in-ok-head.head in
-      let next = subst (λ t. Headed s (drop c.args.at file) t head.length) c.in-Formula.is (c.in-ok-head.ensures.decided s at) in
+      let head = c.in_ok-head.head in
+      let next = subst (λ t. Headed s (drop c.args.at file) t head.length) c.in-Formula.is (c.in_ok-head.ensures.decided s at) in
       let size : c.args.at + 3 + head.length - (c.args.at + 3) ≡ head.length = omega arith in
       let part = ap (λ n. take n (drop (c.args.at + 3) file)) size in
-      let k = c.in-err-extent-3.ensures.adds before s enough begun.good is at in
-      rw (p.1, p.2) (subst (λ e. RefusedWith file (Rule e)) (sym k.3) (refuse_formula file c.args.at s begun 3 head.length next _ part (c.type-inv.file (c.args.at + 2)).fits refl k.0 k.1 k.2));
+      let k = c.in_err-extent-3.ensures.adds before s enough begun.good is at in
+      rw (p.1, p.2) (subst (λ e. RefusedWith file (Rule e)) (sym k.3) (refuse_formula file c.args.at s begun 3 head.length next _ part (c.type_inv.file (c.args.at + 2)).fits refl k.0 k.1 k.2));
 }

@@ -16,20 +16,20 @@ field-requires c =
     let i = c.loop-next.invariant in
     room_at c.args.file.now c.loop-next.at i.0 (held c.args.stores.now) (held c.loop-next.stores) c.loop-next.extent c.requires.short c.requires.enough i.1 i.2 i.3
 
-pub returns-in-err-next : goal.returns-in-err-next
-returns-in-err-next c =
+pub returns-in_err-next : goal.returns-in_err-next
+returns-in_err-next c =
     let p = err_from_is_err_and c.from-residual.result c.from-residual.ensures.1 in
     let i = c.loop-next.invariant in
     record {
-      sized = same_then i.4 c.in-err-next.ensures.sized;
-      decided = rw (p.1, p.2) (c.in-err-next.ensures.advances (held c.args.stores.now) i.0 c.requires.enough i.1 i.2 i.3);
+      sized = same_then i.4 c.in_err-next.ensures.sized;
+      decided = rw (p.1, p.2) (c.in_err-next.ensures.advances (held c.args.stores.now) i.0 c.requires.enough i.1 i.2 i.3);
     }
 
 -- what one more field brings
 advanced : (c : goal.After-extent·1) → Advanced c.args.file.now (held c.args.stores.now) c.loop-next.at (held c.field.new.stores) c.in-Some.next
 advanced c =
     let i = c.loop-next.invariant in
-    MatchOption-at_some _ _ c.in-Some.next c.in-Some.is (c.in-ok-next.ensures.advances (held c.args.stores.now) i.0 c.requires.enough i.1 i.2 i.3)
+    MatchOption-at_some _ _ c.in-Some.next c.in-Some.is (c.in_ok-next.ensures.advances (held c.args.stores.now) i.0 c.requires.enough i.1 i.2 i.3)
 
 pub loop-next-smaller : goal.loop-next-smaller
 loop-next-smaller c =
@@ -37,14 +37,14 @@ loop-next-smaller c =
     omega (arith, a.further, begun_within c.args.file.now c.in-Some.next.at a.sheet a.begun)
 
 pub loop-next-preserved : goal.loop-next-preserved
-loop-next-preserved c = let a = advanced c in (a.sheet, a.begun, a.stores, a.extent, same_then c.loop-next.invariant.4 c.in-ok-next.ensures.sized)
+loop-next-preserved c = let a = advanced c in (a.sheet, a.begun, a.stores, a.extent, same_then c.loop-next.invariant.4 c.in_ok-next.ensures.sized)
 
 pub returns : goal.returns
 returns c =
     let i = c.loop-next.invariant in
-    let e = MatchOption-at_none _ _ c.in-default.is (c.in-ok-next.ensures.advances (held c.args.stores.now) i.0 c.requires.enough i.1 i.2 i.3) in
+    let e = MatchOption-at_none _ _ c.in-default.is (c.in_ok-next.ensures.advances (held c.args.stores.now) i.0 c.requires.enough i.1 i.2 i.3) in
     record {
-      sized = same_then i.4 c.in-ok-next.ensures.sized;
+      sized = same_then i.4 c.in_ok-next.ensures.sized;
       decided = record {
         sized = record { short = c.requires.short; enough = c.requires.enough };
         sheet = i.0;

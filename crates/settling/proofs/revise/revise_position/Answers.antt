@@ -11,13 +11,13 @@ loop-place-init g c = (λ w. none, report_none _)
 
 pub loop-place-preserved : goal.loop-place-preserved
 loop-place-preserved g c =
-    let f = c.in-ok-removed.ensures in
+    let f = c.in_ok-removed.ensures in
     (λ w. turns_more (c.loop-place.invariant.0 w) (f.0 w), report_more _ _ c.loop-place.invariant.1 f.1)
 
-pub returns-in-err-removed : goal.returns-in-err-removed
-returns-in-err-removed g c =
+pub returns-in_err-removed : goal.returns-in_err-removed
+returns-in_err-removed g c =
     let p = err_from_is_err_and c.from-residual.result c.from-residual.ensures.1 in
-    let f = c.in-err-removed.ensures in
+    let f = c.in_err-removed.ensures in
     rw (p.1, p.2) (f.0, λ w. (c.loop-place.place, record { before = _; within = omega arith; first = c.loop-place.invariant.0 w; last = f.1 w }))
 
 pub returns : goal.returns

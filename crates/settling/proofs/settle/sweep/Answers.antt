@@ -4,7 +4,7 @@ use Rattle.std.proofs.lemmas.Bool.Decides.{not_from_Decides}
 use Rattle.runs.specs.Settle.{Turns.none, Turn.unlisted, Turn.taken}
 use Rattle.settling.proofs.Reports.{report_none, meets_more, meets_same, turns_all}
 use Rattle.settling.proofs.settle.sweep.Goals as goal
-use Rattle.settling.proofs.settle.sweep.Goals.{then-has+in-ok-removed, else-has}
+use Rattle.settling.proofs.settle.sweep.Goals.{then-has+in_ok-removed, else-has}
 
 pub loop-rule-init : goal.loop-rule-init
 loop-rule-init g c = (λ w. none, report_none _)
@@ -13,8 +13,8 @@ pub loop-rule-preserved : goal.loop-rule-preserved
 loop-rule-preserved g c =
     let i = c.loop-rule.invariant in
     elim c.if-has.branch [
-      | then-has+in-ok-removed w ↦
-          let f = w.in-ok-removed.ensures in
+      | then-has+in_ok-removed w ↦
+          let f = w.in_ok-removed.ensures in
           let on = c.has.ensures.0 w.if-has.true in
           meets_more i.0 i.1 (λ k. taken on.1 (f.0 k)) f.1 w.sets-is w.used-is w.removed-is
       | else-has w ↦
@@ -22,10 +22,10 @@ loop-rule-preserved g c =
           meets_same i.0 i.1 (λ k. unlisted (λ on. off (omega arith, on))) w.sets-is w.used-is w.removed-is
     ]
 
-pub returns-in-err-removed : goal.returns-in-err-removed
-returns-in-err-removed g c =
+pub returns-in_err-removed : goal.returns-in_err-removed
+returns-in_err-removed g c =
     let p = err_from_is_err_and c.from-residual.result c.from-residual.ensures.1 in
-    let f = c.in-err-removed.ensures in
+    let f = c.in_err-removed.ensures in
     let on = c.has.ensures.0 c.if-has.true in
     rw (p.1, p.2) (rw f.0 (λ w. record { before = _; within = omega arith; first = c.loop-rule.invariant.0 w; last = (on.1, f.1 w) }))
 

@@ -7,20 +7,20 @@ use Rattle.session.specs.Calls.{sheet_of}
 use Rattle.session.proofs.Changing.{changed_shut}
 use Rattle.session.proofs.session.Session.pin.Goals as goal
 
-pub returns-in-err-opened : goal.returns-in-err-opened
-returns-in-err-opened g c =
+pub returns-in_err-opened : goal.returns-in_err-opened
+returns-in_err-opened g c =
     let p = err_from_is_err_and c.from-residual.result c.from-residual.ensures.1 in
-    let q = c.in-err-opened.ensures in
+    let q = c.in_err-opened.ensures in
     changed_shut g.B.RuleBook.meaning c.args.self.now (Pin c.args.cell c.args.place) c.from-residual.result (p.1 ∙ ap Err (p.2 ∙ q.0)) q.1
 
 pub returns-then-cell-self : goal.returns-then-cell-self
-returns-then-cell-self g c = record { judged = λ z. pins_no_cell c.in-ok-opened.ensures c.if-cell-self.true; refused = λ ne. refl; done = λ e. absurd (omega arith) }
+returns-then-cell-self g c = record { judged = λ z. pins_no_cell c.in_ok-opened.ensures c.if-cell-self.true; refused = λ ne. refl; done = λ e. absurd (omega arith) }
 
 pub returns-then-place-self : goal.returns-then-place-self
-returns-then-place-self g c = record { judged = λ z. pins_no_place c.in-ok-opened.ensures c.if-cell-self.false c.if-place-self.true; refused = λ ne. refl; done = λ e. absurd (omega arith) }
+returns-then-place-self g c = record { judged = λ z. pins_no_place c.in_ok-opened.ensures c.if-cell-self.false c.if-place-self.true; refused = λ ne. refl; done = λ e. absurd (omega arith) }
 
 pub bounds-self-cell-2 : goal.bounds-self-cell-2
-bounds-self-cell-2 g c = omega (arith, few_cells (sheet_of g.B.RuleBook.meaning c.args.self.now) c.in-ok-opened.ensures, c.if-cell-self.false)
+bounds-self-cell-2 g c = omega (arith, few_cells (sheet_of g.B.RuleBook.meaning c.args.self.now) c.in_ok-opened.ensures, c.if-cell-self.false)
 
 pub returns : goal.returns
-returns g c = record { judged = λ z. pins c.in-ok-opened.ensures c.if-cell-self.false c.if-place-self.false; refused = λ ne. absurd (ne refl); done = λ e. refl }
+returns g c = record { judged = λ z. pins c.in_ok-opened.ensures c.if-cell-self.false c.if-place-self.false; refused = λ ne. absurd (ne refl); done = λ e. refl }
