@@ -1,10 +1,10 @@
 -- The steps of the loops: what follows a line follows what led to it. Assumes nothing.
-use Rattle.std.proofs.Common.{◌≡◌, ℕ, ◌+◌, ◌-◌, ◌*◌, ◌/◌, ◌^◌, ◌<◌, ◌≤◌, ◌≢◌, List, [], ◌∷◌, ◌++◌, length, take, sym, refl, ap, ◌∙◌, subst, arith}
+use Rattle.std.proofs.Common.{◌≡◌, ℕ, ◌+◌, ◌-◌, ◌*◌, ◌/◌, ◌^◌, ◌<◌, ◌≤◌, ◌≢◌, List, [], ◌∷◌, ◌++◌, length, take, sym, refl, ◌∙◌, subst, arith}
 use Rattle.std.proofs.lemmas.List.{append_assoc, append-nil}
 use Rattle.bits.specs.Sets.{Subset, members, size}
 use Rattle.runs.specs.declared.line.Line.{Line}
 use Rattle.runs.specs.Law.{Right}
-use Rattle.cores.specs.Core.{Outcome, Outcome.left, Outcome.core}
+use Rattle.cores.specs.Core.{Outcome}
 use Rattle.cores.specs.Fit.{with_first, with_rule, Lawful, Gives, Shrinks, Shrinks.all, Shrinks.fewer, Halves, Halves.met, Halves.down, Halves.up, Rounds, Rounds.alone, Rounds.round, Fit, Fit.fills, Fit.clashes}
 use Rattle.cores.proofs.SetFacts.{size_most}
 use Rattle.cores.proofs.CoreLaw.{shrinks_law, fit_law}

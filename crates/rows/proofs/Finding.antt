@@ -1,13 +1,12 @@
 -- What is found among the stored rows and among the others is support. Assumes nothing.
-use Rattle.std.proofs.Common.{◌≡◌, ℕ, ◌+◌, ◌<◌, ◌≤◌, Bool, true, false, not, eqb, List, [], ◌∷◌, map, length, get_or, set, Decides, sym, refl, ap, ◌∙◌, subst, ⊎_elim, arith}
-use Rattle.std.specs.List.{range_with_len}
+use Rattle.std.proofs.Common.{◌≡◌, ℕ, ◌+◌, ◌<◌, ◌≤◌, Bool, true, not, eqb, List, length, get_or, set, Decides, sym, refl, ap, ◌∙◌, subst, ⊎_elim, arith}
 use Rattle.std.proofs.lemmas.List.{get_or_default, get_or-set_same, get_or-set_other}
 use Rattle.std.proofs.lemmas.Bool.{and_parts, and_from, not-true, not_from_false, eq-eqb, cases_Bool, cases_eq, both_ways}
 use Rattle.network.specs.Book.{Rule, Supported, Remains}
 use Rattle.rows.specs.declared.rule.Kind.{Kind}
 use Rattle.rows.specs.declared.rule.Kind.TheVariants.{Permitted, Forbidden}
 use Rattle.rows.specs.declared.rule.RowsRule.{RowsRule}
-use Rattle.rows.specs.Rows.{place_at, row_at, stores, permits_of, rule_of}
+use Rattle.rows.specs.Rows.{row_at, stores, permits_of, rule_of}
 use Rattle.rows.specs.RowsLaws.{width_of, cell_of}
 use Rattle.rows.specs.Support.{Allowed, Allows, Within, Same, Unstored}
 use Rattle.rows.proofs.Rows.{row_wide, row_place, stores_decides, front, front-wide, front-place, front-is, same_front, front_same}

@@ -6,7 +6,7 @@ use Rattle.std.proofs.lemmas.Bool.{both_ways, cases_Bool, cases_eq, cases_order,
 use Rattle.bits.specs.Sets.{In, below, members, size}
 use Rattle.bits.proofs.Size.{below_yes, below_no, below_zero, size_le, some_size}
 use Rattle.rows.specs.declared.rule.RowsRule.{RowsRule}
-use Rattle.rows.specs.Rows.{place_at, row_at, stores}
+use Rattle.rows.specs.Rows.{place_at, stores}
 use Rattle.rows.specs.Support.{Allowed, Unstored, rows_within}
 use Rattle.rows.proofs.Rows.{stores_decides, front, front_same, same_front}
 use Rattle.rows.proofs.Finding.{last_yes, step-yes}

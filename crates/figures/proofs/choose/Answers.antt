@@ -1,5 +1,4 @@
-use Rattle.std.proofs.Common.{◌≡◌, ℕ, ◌-◌, List, length, take, sym, refl, ap, ◌∙◌, arith, length-set}
-use Rattle.choosers.specs.declared.chooser.Figure.{Figure}
+use Rattle.std.proofs.Common.{◌≡◌, ℕ, ◌-◌, length, take, ap, ◌∙◌, arith, length-set}
 use Rattle.runs.specs.Figures.{figure_of}
 use Rattle.figures.proofs.Figuring.{figures_more, figures_all}
 use Rattle.figures.proofs.choose.Goals as goal

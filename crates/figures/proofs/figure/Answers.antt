@@ -1,4 +1,4 @@
-use Rattle.std.proofs.Common.{◌≡◌, ℕ, get_or, sym, refl, ap, ◌∙◌, ap₂}
+use Rattle.std.proofs.Common.{ℕ, get_or, ap₂}
 use Rattle.choosers.specs.declared.chooser.Figure.{Figure}
 use Rattle.runs.proofs.MoreBits.{ones_size}
 use Rattle.figures.proofs.figure.Goals as goal

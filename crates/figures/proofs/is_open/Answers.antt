@@ -1,4 +1,4 @@
-use Rattle.std.proofs.Common.{ℕ, ltb, ap}
+use Rattle.std.proofs.Common.{ltb, ap}
 use Rattle.runs.proofs.MoreBits.{ones_size}
 use Rattle.figures.proofs.is_open.Goals as goal
 

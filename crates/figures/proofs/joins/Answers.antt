@@ -1,4 +1,4 @@
-use Rattle.std.proofs.Common.{◌≡◌, Bool, ◌&&◌, sym, refl, ap, ◌∙◌, arith}
+use Rattle.std.proofs.Common.{Bool, ◌&&◌, sym, refl, ap, ◌∙◌, arith}
 use Rattle.figures.proofs.Figuring.{same_cell, other_cell, joins_is}
 use Rattle.figures.proofs.joins.Goals as goal
 use Rattle.figures.proofs.joins.Goals.{then-other-cell, else-other-cell}

@@ -1,4 +1,4 @@
-use Rattle.std.proofs.Common.{◌≡◌, ℕ, ◌+◌, ◌/◌, ◌%◌, ◌^◌, sym, refl, ◌∙◌, arith}
+use Rattle.std.proofs.Common.{sym, ◌∙◌, arith}
 use Rattle.bits.specs.Sets.{In}
 use Rattle.cores.proofs.SetFacts.{decides_not, below_more, at_end, length_zero}
 use Rattle.clash.proofs.masks.count.Goals as goal

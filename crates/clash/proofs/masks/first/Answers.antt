@@ -1,4 +1,4 @@
-use Rattle.std.proofs.Common.{◌≡◌, ℕ, ◌+◌, ◌/◌, ◌%◌, ◌^◌, ◌<◌, ◌≤◌, length, sym, refl, ap, ◌∙◌, arith}
+use Rattle.std.proofs.Common.{ℕ, ◌^◌, ◌<◌, ◌≤◌, length, sym, ap, ◌∙◌, arith}
 use lib.Bits.{bit_or}
 use Rattle.bits.specs.Sets.{In, below}
 use Rattle.cores.proofs.SetFacts.{decides_not, below_more, first_end, length_zero, first_begin, first_step_in, first_step_past, first_step_off}

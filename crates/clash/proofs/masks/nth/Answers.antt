@@ -1,4 +1,4 @@
-use Rattle.std.proofs.Common.{◌≡◌, ℕ, ◌+◌, ◌/◌, ◌%◌, ◌^◌, sym, refl, ap, ◌∙◌, arith}
+use Rattle.std.proofs.Common.{sym, ◌∙◌, arith}
 use Rattle.bits.specs.Sets.{In}
 use Rattle.cores.proofs.SetFacts.{decides_not, below_more, at_end, length_zero, nth_is, nth_none}
 use Rattle.clash.proofs.masks.nth.Goals as goal

@@ -1,5 +1,4 @@
-use Rattle.std.proofs.Common.{◌≡◌, ℕ, ◌+◌, ◌*◌, ◌^◌, ◌<◌, ◌≤◌, List, [], ◌∷◌, ◌++◌, length, sym, refl, ap, ◌∙◌, subst, arith, length-set}
-use Rattle.bits.specs.Sets.{size}
+use Rattle.std.proofs.Common.{◌^◌, ◌<◌, [], sym, ◌∙◌, subst, arith, length-set}
 use Rattle.cores.proofs.SetFacts.{size_most}
 use Rattle.cores.proofs.CoreLaw.{says_one}
 use Rattle.clash.proofs.LogFacts.{wrote_none, wrote_more}

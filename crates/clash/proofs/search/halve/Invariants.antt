@@ -1,4 +1,4 @@
-use Rattle.std.proofs.Common.{ℕ, ◌+◌, ◌-◌, ◌^◌, ◌<◌, ◌≤◌, List, ◌++◌, length}
+use Rattle.std.proofs.Common.{ℕ, ◌+◌, ◌-◌, ◌^◌, ◌≤◌, List}
 use Rattle.bits.specs.Sets.{members}
 use Rattle.runs.specs.declared.line.Line.{Line}
 use Rattle.clash.specs.Running.{lasting}

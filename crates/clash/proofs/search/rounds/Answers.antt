@@ -1,8 +1,7 @@
-use Rattle.std.proofs.Common.{◌≡◌, ℕ, ◌+◌, ◌-◌, ◌*◌, ◌/◌, ◌%◌, ◌^◌, ◌<◌, ◌≤◌, List, [], ◌∷◌, ◌++◌, length, get_or, sym, refl, ap, ◌∙◌, subst, arith, length-set}
+use Rattle.std.proofs.Common.{◌≡◌, ℕ, ◌-◌, ◌^◌, ◌<◌, ◌≤◌, [], ◌∷◌, ◌++◌, get_or, sym, ap, ◌∙◌, subst, arith, length-set}
 use lib.Bits.{bit_or}
 use Rattle.bits.specs.Sets.{members, size}
-use Rattle.runs.specs.declared.line.Line.{Line}
-use Rattle.cores.specs.Fit.{with_first, with_rule, Rounds}
+use Rattle.cores.specs.Fit.{with_first, with_rule}
 use Rattle.cores.proofs.SetFacts.{member_has, members_subset, nth_any}
 use Rattle.cores.proofs.CoreLaw.{Ahead, says_fits, at_first, some_left, first-among, halved}
 use Rattle.clash.proofs.LogFacts.{wrote_none, wrote_more, wrote_then}

@@ -1,4 +1,4 @@
-use Rattle.std.proofs.Common.{ℕ, ◌+◌, ◌-◌, ◌*◌, ◌^◌, ◌<◌, ◌≤◌, List, ◌++◌, length}
+use Rattle.std.proofs.Common.{◌+◌, ◌*◌, ◌≤◌, List, length}
 use Rattle.bits.specs.Sets.{members}
 use Rattle.runs.specs.declared.line.Line.{Line}
 use Rattle.cores.proofs.CoreLaw.{Ahead}

@@ -1,5 +1,5 @@
-use Rattle.std.proofs.Common.{◌≡◌, ℕ, ◌+◌, ◌^◌, ◌<◌, ◌≤◌, List, [], ◌∷◌, ◌++◌, length, sym, refl, ap, ◌∙◌, subst, arith}
-use Rattle.bits.specs.Sets.{Subset, size}
+use Rattle.std.proofs.Common.{◌≡◌, ◌^◌, ◌<◌, [], ◌∷◌, ◌++◌, sym, ap, ◌∙◌, subst, arith}
+use Rattle.bits.specs.Sets.{size}
 use Rattle.cores.proofs.SetFacts.{size_lt, subset_small}
 use Rattle.cores.proofs.CoreLaw.{says_clash}
 use Rattle.clash.proofs.LogFacts.{wrote_none, wrote_more}

@@ -36,7 +36,7 @@ returns c = record {
 
 pub returns-in_err-formula : goal.returns-in_err-formula
 returns-in_err-formula c =
-    let p = err_from_is_err_and c.from-residual.result c.from-residual.ensures.1 in
+    let p = err_from_is_err_and c.from_residual.result c.from_residual.ensures.1 in
     record {
       sized = record {
         lengths = refl;

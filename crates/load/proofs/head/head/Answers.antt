@@ -28,7 +28,7 @@ returns-then-file-at-lt3 c = record {
 
 pub returns-in_err-check_end : goal.returns-in_err-check_end
 returns-in_err-check_end c =
-    let p = err_from_is_err_and c.from-residual.result c.from-residual.ensures.1 in
+    let p = err_from_is_err_and c.from_residual.result c.from_residual.ensures.1 in
     let room : c.args.at + 3 ≤ length c.args.file.now = omega arith in
     let four = ap tag_byte c.in-End.is in
     rw (p.1, p.2) (record {
@@ -43,7 +43,7 @@ returns-in_err-check_end c =
 
 pub returns-in_err-check_content : goal.returns-in_err-check_content
 returns-in_err-check_content c =
-    let p = err_from_is_err_and c.from-residual-in_err-check_content.result c.from-residual-in_err-check_content.ensures.1 in
+    let p = err_from_is_err_and c.from_residual-in_err-check_content.result c.from_residual-in_err-check_content.ensures.1 in
     let room : c.args.at + 3 ≤ length c.args.file.now = omega arith in
     let other = not_end c.in-Some.tag c.in-Cell.is in
     rw (p.1, p.2) (record {

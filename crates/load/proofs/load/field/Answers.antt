@@ -24,7 +24,7 @@ pub returns-in_err-extent : goal.returns-in_err-extent
 returns-in_err-extent c = record {
   sized = c.in_err-extent.ensures.sized;
   advances = λ before s enough begun is at.
-      let p = err_from_is_err_and c.from-residual-in_err-extent.result c.from-residual-in_err-extent.ensures.1 in
+      let p = err_from_is_err_and c.from_residual-in_err-extent.result c.from_residual-in_err-extent.ensures.1 in
       let file = c.args.file.now in
       let head = c.in_ok-head.head in
       let next = subst (λ t. Headed s (drop c.args.at file) t head.length) c.in-Cell.is (c.in_ok-head.ensures.decided s at) in
@@ -51,7 +51,7 @@ pub returns-in_err-extent-2 : goal.returns-in_err-extent-2
 returns-in_err-extent-2 c = record {
   sized = c.in_err-extent-2.ensures.sized;
   advances = λ before s enough begun is at.
-      let p = err_from_is_err_and c.from-residual-in_err-extent-2.result c.from-residual-in_err-extent-2.ensures.1 in
+      let p = err_from_is_err_and c.from_residual-in_err-extent-2.result c.from_residual-in_err-extent-2.ensures.1 in
       let file = c.args.file.now in
       let head = c.in_ok-head.head in
       let next = subst (λ t. Headed s (drop c.args.at file) t head.length) c.in-Rows.is (c.in_ok-head.ensures.decided s at) in
@@ -78,7 +78,7 @@ pub returns-in_err-extent-3 : goal.returns-in_err-extent-3
 returns-in_err-extent-3 c = record {
   sized = c.in_err-extent-3.ensures.sized;
   advances = λ before s enough begun is at.
-      let p = err_from_is_err_and c.from-residual-in_err-extent-3.result c.from-residual-in_err-extent-3.ensures.1 in
+      let p = err_from_is_err_and c.from_residual-in_err-extent-3.result c.from_residual-in_err-extent-3.ensures.1 in
       let file = c.args.file.now in
       let head = c.in_ok-head.head in
       let next = subst (λ t. Headed s (drop c.args.at file) t head.length) c.in-Formula.is (c.in_ok-head.ensures.decided s at) in

@@ -18,7 +18,7 @@ field-requires c =
 
 pub returns-in_err-next : goal.returns-in_err-next
 returns-in_err-next c =
-    let p = err_from_is_err_and c.from-residual.result c.from-residual.ensures.1 in
+    let p = err_from_is_err_and c.from_residual.result c.from_residual.ensures.1 in
     let i = c.loop-next.invariant in
     record {
       sized = same_then i.4 c.in_err-next.ensures.sized;

@@ -1,7 +1,7 @@
-use Rattle.std.proofs.Common.{◌≡◌, ℕ, ◌<◌, true, false, length, get_or, set, sym, refl, ◌∙◌, subst, ⊎_elim, arith}
+use Rattle.std.proofs.Common.{◌≡◌, get_or, refl, subst, ⊎_elim, arith}
 use Rattle.std.proofs.lemmas.Bool.{false≢true, cases_lt, not-true, not_from_false, cases_Bool}
 use Rattle.std.proofs.lemmas.Bool.Decides.{not_from_Decides}
-use Rattle.rows.specs.Support.{Allowed, Unstored}
+use Rattle.rows.specs.Support.{Allowed}
 use Rattle.rows.proofs.Finding.{last_yes, last_no, step-yes, step-no}
 use Rattle.rows.proofs.search.+goes_on.Goals as goal
 use Rattle.rows.proofs.search.+goes_on.Goals.{then-has+else-goes_on, else-has}

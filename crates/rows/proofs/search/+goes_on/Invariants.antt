@@ -1,4 +1,4 @@
-use Rattle.std.proofs.Common.{ℕ, ◌-◌, ◌<◌, get_or}
+use Rattle.std.proofs.Common.{◌-◌, ◌<◌, get_or}
 use Rattle.rows.specs.Support.{Unstored}
 use Rattle.rows.proofs.search.+goes_on.Given as goal
 

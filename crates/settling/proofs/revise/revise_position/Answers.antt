@@ -16,7 +16,7 @@ loop-place-preserved g c =
 
 pub returns-in_err-removed : goal.returns-in_err-removed
 returns-in_err-removed g c =
-    let p = err_from_is_err_and c.from-residual.result c.from-residual.ensures.1 in
+    let p = err_from_is_err_and c.from_residual.result c.from_residual.ensures.1 in
     let f = c.in_err-removed.ensures in
     rw (p.1, p.2) (f.0, λ w. (c.loop-place.place, record { before = _; within = omega arith; first = c.loop-place.invariant.0 w; last = f.1 w }))
 

@@ -24,7 +24,7 @@ loop-rule-preserved g c =
 
 pub returns-in_err-removed : goal.returns-in_err-removed
 returns-in_err-removed g c =
-    let p = err_from_is_err_and c.from-residual.result c.from-residual.ensures.1 in
+    let p = err_from_is_err_and c.from_residual.result c.from_residual.ensures.1 in
     let f = c.in_err-removed.ensures in
     let on = c.has.ensures.0 c.if-has.true in
     rw (p.1, p.2) (rw f.0 (λ w. record { before = _; within = omega arith; first = c.loop-rule.invariant.0 w; last = (on.1, f.1 w) }))

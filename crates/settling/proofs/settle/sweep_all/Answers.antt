@@ -9,7 +9,7 @@ loop-init g c w = (λ t h. h, λ r t h. h)
 
 pub returns-in_err-sweep : goal.returns-in_err-sweep
 returns-in_err-sweep g c =
-    let p = err_from_is_err_and c.from-residual.result c.from-residual.ensures.1 in
+    let p = err_from_is_err_and c.from_residual.result c.from_residual.ensures.1 in
     rw (p.1, p.2) (λ w. (c.loop.invariant w).1 _ _ (at_once (c.in_err-sweep.ensures w)))
 
 pub loop-smaller : goal.loop-smaller

@@ -1,4 +1,4 @@
-use Rattle.std.proofs.Common.{◌≡◌, ℕ, [], get_or, Decides, sym, subst, arith}
+use Rattle.std.proofs.Common.{[], get_or, Decides, sym, subst, arith}
 use Rattle.network.specs.Book.{Supported}
 use Rattle.rows.specs.Rows.{no_rows}
 use Rattle.rows.proofs.Cells.{within, there, narrow}

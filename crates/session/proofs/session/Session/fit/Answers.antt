@@ -15,9 +15,9 @@ part_long xs n h = ap (λ (k : ℕ). length (take k (drop 0 xs))) (sub-zero n) �
 
 pub returns-in_err-opened : goal.returns-in_err-opened
 returns-in_err-opened g c =
-    let p = err_from_is_err_and c.from-residual.result c.from-residual.ensures.1 in
+    let p = err_from_is_err_and c.from_residual.result c.from_residual.ensures.1 in
     let q = c.in_err-opened.ensures in
-    fit_shut g.B.RuleBook.meaning g.C.Chooser.meaning c.args.self.now c.args.work.now c.args.log.now c.args.filling.now c.from-residual.result (p.1 ∙ ap Err (p.2 ∙ q.0)) q.1
+    fit_shut g.B.RuleBook.meaning g.C.Chooser.meaning c.args.self.now c.args.work.now c.args.log.now c.args.filling.now c.from_residual.result (p.1 ∙ ap Err (p.2 ∙ q.0)) q.1
 
 pub returns-then-not-are_enough : goal.returns-then-not-are_enough
 returns-then-not-are_enough g c = record {

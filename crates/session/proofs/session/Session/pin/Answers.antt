@@ -9,9 +9,9 @@ use Rattle.session.proofs.session.Session.pin.Goals as goal
 
 pub returns-in_err-opened : goal.returns-in_err-opened
 returns-in_err-opened g c =
-    let p = err_from_is_err_and c.from-residual.result c.from-residual.ensures.1 in
+    let p = err_from_is_err_and c.from_residual.result c.from_residual.ensures.1 in
     let q = c.in_err-opened.ensures in
-    changed_shut g.B.RuleBook.meaning c.args.self.now (Pin c.args.cell c.args.place) c.from-residual.result (p.1 ∙ ap Err (p.2 ∙ q.0)) q.1
+    changed_shut g.B.RuleBook.meaning c.args.self.now (Pin c.args.cell c.args.place) c.from_residual.result (p.1 ∙ ap Err (p.2 ∙ q.0)) q.1
 
 pub returns-then-cell-self : goal.returns-then-cell-self
 returns-then-cell-self g c = record { judged = λ z. pins_no_cell c.in_ok-opened.ensures c.if-cell-self.true; refused = λ ne. refl; done = λ e. absurd (omega arith) }

@@ -9,9 +9,9 @@ use Rattle.session.proofs.session.Session.switch.Goals as goal
 
 pub returns-in_err-opened : goal.returns-in_err-opened
 returns-in_err-opened g c =
-    let p = err_from_is_err_and c.from-residual.result c.from-residual.ensures.1 in
+    let p = err_from_is_err_and c.from_residual.result c.from_residual.ensures.1 in
     let q = c.in_err-opened.ensures in
-    changed_shut g.B.RuleBook.meaning c.args.self.now (Switch c.args.rule c.args.on) c.from-residual.result (p.1 ∙ ap Err (p.2 ∙ q.0)) q.1
+    changed_shut g.B.RuleBook.meaning c.args.self.now (Switch c.args.rule c.args.on) c.from_residual.result (p.1 ∙ ap Err (p.2 ∙ q.0)) q.1
 
 pub returns-then-rule-count : goal.returns-then-rule-count
 returns-then-rule-count g c = record { judged = λ z. switches_no_rule c.in_ok-opened.ensures (omega (arith, c.count.ensures, c.if-rule-count.true)); refused = λ ne. refl; done = λ e. absurd (omega arith) }
