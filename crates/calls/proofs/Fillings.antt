@@ -1,20 +1,18 @@
 -- Fillings under the standing pins are the fillings inside the starting sets. Assumes nothing.
-use Rattle.std.proofs.Common.{◌≡◌, ℕ, zero, suc, ◌+◌, ◌-◌, ◌*◌, ◌/◌, ◌%◌, ◌^◌, ◌<◌, ◌≤◌, Bool, true, false, cond, ◌≢◌, ◌⊎◌, List, [], ◌∷◌, ◌++◌, map, length, get_or, Some, None, filter, Option, sym, refl, ap, ◌∙◌, subst, ap₂, inl, inr, ⊎_elim, pow-suc, arith, pow_pos, pow_mono}
+use Rattle.std.proofs.Common.{◌≡◌, ℕ, zero, suc, ◌+◌, ◌-◌, ◌/◌, ◌%◌, ◌^◌, ◌<◌, ◌≤◌, Bool, true, false, cond, List, ◌∷◌, length, get_or, Some, None, filter, Option, sym, refl, ap, ◌∙◌, subst, ⊎_elim, pow-suc, arith, pow_pos, pow_mono}
 use native.Mathlib.Nat.{div-eq_of_lt}
 use lib.Pow.{ones_split, high, ones_lt}
 use Rattle.std.proofs.lemmas.Bool.{cases_lt}
-use Rattle.std.proofs.lemmas.List.{append-nil}
-use Rattle.std.proofs.lemmas.List.FromFn.{length-map-range_with_len, get_or-map-range_with_len, length-range_with_len, get_or-range_with_len}
+use Rattle.std.proofs.lemmas.List.FromFn.{length-map-range_with_len, get_or-map-range_with_len}
 use Rattle.std.specs.List.{range_with_len}
-use Rattle.bits.specs.Sets.{In, set_of}
-use Rattle.bits.proofs.Bits.{pow_same, has_zero}
-use Rattle.network.specs.Book.{BookMeaning, Lawful, Remains}
+use Rattle.bits.specs.Sets.{In}
+use Rattle.bits.proofs.Bits.{pow_same}
+use Rattle.network.specs.Book.{Lawful}
 use Rattle.network.specs.Fillings.{Inside, Meetable}
-use Rattle.runs.specs.Settle.{cell_at}
-use Rattle.runs.specs.Law.{Suits, Ready}
+use Rattle.runs.specs.Law.{Ready}
 use Rattle.cores.proofs.SetFacts.{has_pow, set_has}
-use Rattle.calls.specs.Sheet.{Sheet, cells, places, Listed, Named, Checked, Checked.passes, Opens}
-use Rattle.calls.specs.History.{Did, standing, Valid, set_where, on_after, Filling, Fillable}
+use Rattle.calls.specs.Sheet.{Sheet, cells, places, Listed, Named, Checked.passes, Opens}
+use Rattle.calls.specs.History.{Did, standing, Valid, set_where, Filling, Fillable}
 use Rattle.calls.specs.Runs.{start_of, starts, start_after}
 
 -- ---- whole lists as sets

@@ -1,26 +1,23 @@
 -- What is played by runs follows from the sheet, the chooser and the calls. Assumes nothing.
-use Rattle.std.proofs.Common.{◌≡◌, ℕ, ◌<◌, ◌≤◌, Bool, true, false, cond, eqb, ◌≢◌, List, [], ◌∷◌, length, get_or, take, Some, None, vec_items, vec_len, Option, sym, refl, ap, ◌∙◌, subst, ap₂, subst₂, arith}
+use Rattle.std.proofs.Common.{◌≡◌, ℕ, ◌<◌, cond, eqb, List, [], ◌∷◌, length, get_or, take, Some, None, vec_items, Option, sym, refl, ap, ◌∙◌, subst, subst₂, arith}
 use Rattle.std.proofs.lemmas.List.{length-take-le, ext_get_or}
 use Rattle.choosers.specs.Choice.{Machine}
-use Rattle.runs.specs.declared.line.Line.{Line}
 use Rattle.cores.specs.Core.{Outcome, Outcome.left, Outcome.core}
-use Rattle.cores.specs.Fit.{Fit}
 use Rattle.cores.proofs.Unique.{fit_same}
 use Rattle.clash.specs.declared.fitted.Fitted.{Fitted as Values}
 use Rattle.clash.specs.Running.{Lasting}
 use Rattle.calls.specs.declared.call.Call.{Call}
-use Rattle.calls.specs.declared.call.Call.TheVariants.{Fit as FitCall}
 use Rattle.calls.specs.declared.refusal.Refusal.{Refusal}
 use Rattle.calls.specs.declared.refusal.Refusal.TheVariants.{Lists, TooManyRules, MissingCell, Shut, NoCell, NoPlace, NoRule, ShortBuffer}
 use Rattle.calls.specs.declared.answer.Answer.{Answer}
 use Rattle.calls.specs.declared.answer.Answer.TheVariants.{Done, Fitted, Refused}
 use Rattle.calls.specs.declared.step.Step.{Step}
 use Rattle.calls.specs.Answers.{number_of, Said, said, plain, returned}
-use Rattle.calls.specs.Sheet.{Sheet, Sizes, cells, Judged, Judged.shut, Judged.pins, Judged.pins_no_cell, Judged.pins_no_place, Judged.frees, Judged.frees_no_cell, Judged.switches, Judged.switches_no_rule, Judged.fits, Judged.fits_short}
-use Rattle.calls.specs.History.{Did, on_after, standing}
-use Rattle.calls.specs.Plays.{sizes, did, Untouched, Makes, Makes.refused, Makes.changed, Makes.fitted, Plays, Plays.none, Plays.more}
+use Rattle.calls.specs.Sheet.{Sheet, Sizes, Judged, Judged.shut, Judged.pins, Judged.pins_no_cell, Judged.pins_no_place, Judged.frees, Judged.frees_no_cell, Judged.switches, Judged.switches_no_rule, Judged.fits, Judged.fits_short}
+use Rattle.calls.specs.History.{Did, standing}
+use Rattle.calls.specs.Plays.{sizes, did, Makes, Makes.refused, Makes.changed, Makes.fitted, Plays.none, Plays.more}
 use Rattle.calls.specs.Promise.{lines_of, filling_of}
-use Rattle.calls.specs.Runs.{Ran, start_after, Alone, Comes, FitRuns, StepRuns, PlaysByRuns, Alike, Agree, Pairwise, Pairwise.none as no_pairs, Pairwise.more as and-pairs, Follows}
+use Rattle.calls.specs.Runs.{Ran, start_after, Alone, Comes, StepRuns, PlaysByRuns, Alike, Agree, Pairwise, Pairwise.none as no_pairs, Pairwise.more as and-pairs, Follows}
 use Rattle.calls.proofs.RunLaws.{ran_fixed}
 use Rattle.calls.proofs.Fillings.{starts_long}
 

@@ -1,29 +1,27 @@
 -- Calls played by runs keep the promise of fillings and cores. Assumes nothing.
-use Rattle.std.proofs.Common.{◌≡◌, ℕ, zero, suc, ◌+◌, ◌-◌, ◌*◌, ◌^◌, ◌<◌, ◌≤◌, Bool, true, false, cond, eqb, ◌≢◌, ◌⊎◌, List, [], ◌∷◌, ◌++◌, length, get_or, take, drop, Some, None, vec_items, vec_len, Option, sym, refl, ap, ◌∙◌, subst, ap₂, subst₂, inl, inr, ⊎_elim, arith}
+use Rattle.std.proofs.Common.{◌≡◌, ℕ, ◌+◌, ◌-◌, ◌*◌, ◌^◌, ◌<◌, ◌≤◌, eqb, ◌≢◌, List, [], ◌∷◌, length, get_or, take, Some, None, vec_items, Option, sym, refl, ap, ◌∙◌, subst, subst₂, inl, inr, arith}
 use Rattle.std.proofs.lemmas.List.{length-take-le, ext_get_or}
 use Rattle.std.proofs.lemmas.Bool.{cond-true, cond-false, eq-eqb, ne_eqb, cases_eq}
-use Rattle.bits.specs.Sets.{In, Subset, size, set_of}
-use Rattle.network.specs.Book.{BookMeaning, Lawful}
+use Rattle.bits.specs.Sets.{size}
+use Rattle.network.specs.Book.{Lawful}
 use Rattle.network.specs.Fillings.{Inside, MeetsAll, Meetable}
 use Rattle.choosers.specs.Choice.{Machine, Naming}
 use Rattle.runs.specs.declared.line.Line.{Line}
 use Rattle.runs.specs.Law.{Right, Fills}
-use Rattle.cores.specs.Core.{Core, Short, Each, Outcome, Outcome.left, Outcome.core, Promise}
-use Rattle.cores.specs.Fit.{Gives, Fit, Fit.fills, Fit.clashes}
+use Rattle.cores.specs.Core.{Core, Each, Outcome, Outcome.left, Outcome.core}
+use Rattle.cores.specs.Fit.{Fit, Fit.fills}
 use Rattle.cores.proofs.CoreLaw.{fit_law}
 use Rattle.cores.proofs.SetFacts.{subset_small}
 use Rattle.clash.specs.declared.fitted.Fitted.{Fitted as Values}
 use Rattle.clash.specs.Running.{Lasting}
 use Rattle.calls.specs.declared.call.Call.{Call}
-use Rattle.calls.specs.declared.call.Call.TheVariants.{Pin, Free, Switch, Fit as FitCall}
-use Rattle.calls.specs.declared.answer.Answer.{Answer}
 use Rattle.calls.specs.declared.step.Step.{Step}
-use Rattle.calls.specs.Answers.{Said, said, plain, returned}
-use Rattle.calls.specs.Sheet.{Sheet, Sizes, cells, places, Opens, Judged, Judged.shut, Judged.pins, Judged.pins_no_cell, Judged.pins_no_place, Judged.frees, Judged.frees_no_cell, Judged.switches, Judged.switches_no_rule, Judged.fits, Judged.fits_short}
+use Rattle.calls.specs.Answers.{Said, said}
+use Rattle.calls.specs.Sheet.{Sheet, Sizes, Opens, Judged, Judged.shut, Judged.pins, Judged.pins_no_cell, Judged.pins_no_place, Judged.frees, Judged.frees_no_cell, Judged.switches, Judged.switches_no_rule, Judged.fits, Judged.fits_short}
 use Rattle.calls.specs.History.{Did, accepted, pinned, standing, Valid, on_after, Filling, Fillable}
-use Rattle.calls.specs.Plays.{sizes, did, Untouched, Makes, Makes.refused, Makes.changed, Makes.fitted, Plays, Plays.none, Plays.more}
-use Rattle.calls.specs.Promise.{lines_of, filling_of, Filled, Clashed, Ended, Ended.filled, Ended.clashed, StepKeeps, FillingOrCore, FillingsAndCores}
-use Rattle.calls.specs.Runs.{Ran, start_after, Alone, Comes, FitRuns, StepRuns, StepDone, PlaysByRuns}
+use Rattle.calls.specs.Plays.{sizes, did, Makes, Makes.refused, Makes.changed, Makes.fitted, Plays, Plays.none, Plays.more}
+use Rattle.calls.specs.Promise.{lines_of, filling_of, Ended, Ended.filled, Ended.clashed, FillingOrCore, FillingsAndCores}
+use Rattle.calls.specs.Runs.{Ran, start_after, Alone, Comes, StepRuns, StepDone, PlaysByRuns}
 use Rattle.calls.proofs.RunLaws.{ran_lawful, ran_fills}
 use Rattle.calls.proofs.Fillings.{whole_has, starts_long, few_rules, where_small, inside-filling, met-fillable, fillable-met}
 

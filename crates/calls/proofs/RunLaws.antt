@@ -1,5 +1,5 @@
 -- The laws of a run, as the search for a core asks for them. Assumes nothing.
-use Rattle.std.proofs.Common.{◌≡◌, ℕ, List, sym, refl, ap, ◌∙◌, subst, ap₂}
+use Rattle.std.proofs.Common.{◌≡◌, ℕ, List, sym, subst, ap₂}
 use Rattle.bits.specs.Sets.{Subset}
 use Rattle.network.specs.Book.{BookMeaning, Lawful}
 use Rattle.network.specs.Fillings.{Meetable}

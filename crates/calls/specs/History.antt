@@ -1,5 +1,5 @@
 -- Which pins stand and which rules are on after some calls: by the calls and their answers alone. Assumes nothing.
-use Rattle.std.specs.Prelude.{◌≡◌, ℕ, ◌<◌, Bool, true, false, cond, List, [], ◌∷◌, length, Some, None, filter, Option, ◌==◌, slice_index}
+use Rattle.std.specs.Prelude.{◌≡◌, ℕ, ◌<◌, Bool, true, cond, List, [], ◌∷◌, length, Some, None, filter, Option, ◌==◌, slice_index}
 use Rattle.std.specs.List.{range_with_len}
 use Rattle.bits.specs.Sets.{set_of}
 use Rattle.network.specs.Fillings.{MeetsAll}

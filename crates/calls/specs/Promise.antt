@@ -1,5 +1,5 @@
 -- What a Fit promises: a filling or a core. Assumes nothing.
-use Rattle.std.specs.Prelude.{◌≡◌, ℕ, ◌≤◌, List, [], ◌∷◌, length, take, drop, vec_items}
+use Rattle.std.specs.Prelude.{◌≡◌, ℕ, ◌≤◌, List, [], length, take, drop, vec_items}
 use Rattle.bits.specs.Sets.{size}
 use Rattle.network.specs.Fillings.{MeetsAll}
 use Rattle.runs.specs.declared.line.Line.{Line}

@@ -13,7 +13,7 @@ use Rattle.clash.specs.declared.fitted.Fitted.{Fitted as Values}
 use Rattle.clash.specs.Running.{Lasting, lasting}
 use Rattle.calls.specs.declared.step.Step.{Step}
 use Rattle.calls.specs.Answers.{said, returned}
-use Rattle.calls.specs.Sheet.{Sheet, cells, places}
+use Rattle.calls.specs.Sheet.{Sheet, places}
 use Rattle.calls.specs.History.{Did, standing, on_after}
 use Rattle.calls.specs.Plays.{sizes, Plays}
 use Rattle.calls.specs.Promise.{lines_of, filling_of, StepKeeps}

@@ -1,8 +1,8 @@
 -- Reports, one after another. Assumes nothing.
-use Rattle.std.proofs.Common.{◌≡◌, ℕ, ◌+◌, ◌<◌, ◌≤◌, Bool, true, false, ◌||◌, ◌≢◌, List, sym, refl, ap, ◌∙◌, subst, arith}
+use Rattle.std.proofs.Common.{◌≡◌, ℕ, ◌+◌, ◌≤◌, Bool, true, false, ◌||◌, ◌≢◌, List, sym, refl, ap, ◌∙◌, subst, arith}
 use mathlib.Core.Path.{subst₃}
 use Rattle.std.proofs.lemmas.Bool.{false≢true, true≢false}
-use Rattle.runs.specs.Settle.{State, state, total, Turns}
+use Rattle.runs.specs.Settle.{State, total, Turns}
 use Rattle.runs.proofs.Turning.{turns_more}
 use Rattle.settling.specs.Report.{Report, Leads}
 

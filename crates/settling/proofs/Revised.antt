@@ -1,5 +1,5 @@
 -- One revision, from what the code tests. Assumes nothing.
-use Rattle.std.proofs.Common.{◌≡◌, ℕ, zero, suc, ◌+◌, ◌-◌, ◌*◌, ◌/◌, ◌%◌, ◌^◌, ◌<◌, ◌≤◌, Bool, true, false, ◌≢◌, List, length, get_or, set, sym, refl, ap, ◌∙◌, subst, subst₂, inl, inr, add-zero, add-suc, one-mul, pow-suc, arith, length-set, pow_pos, pow_mono}
+use Rattle.std.proofs.Common.{◌≡◌, ℕ, zero, suc, ◌+◌, ◌-◌, ◌*◌, ◌/◌, ◌%◌, ◌^◌, ◌<◌, ◌≤◌, true, ◌≢◌, List, length, get_or, set, sym, refl, ap, ◌∙◌, subst, subst₂, inl, inr, add-zero, add-suc, one-mul, pow-suc, arith, length-set, pow_pos, pow_mono}
 use lib.Bits.{bit_or}
 use lib.Count.{count_leading_zeros}
 use Rattle.std.proofs.lemmas.List.{get_or-set_same}
@@ -8,7 +8,7 @@ use Rattle.std.proofs.lemmas.Nat.{leading_length, leading_top, le-div, div_below
 use Rattle.bits.specs.Sets.{In}
 use Rattle.bits.proofs.Bits.{has_zero, has_le}
 use Rattle.network.specs.Book.{BookMeaning, Supported, Remains}
-use Rattle.runs.specs.Settle.{Turns, Turns.none, Turns.more, State, state, cell_at, Lost, Empty, total, out_of, marked, weighed, Revises, Revises.absent, Revises.kept, Revises.removed, Empties, Empties.emptied}
+use Rattle.runs.specs.Settle.{Turns, Turns.none, Turns.more, State, state, cell_at, Lost, Empty, total, out_of, weighed, Revises, Revises.absent, Revises.kept, Revises.removed, Empties, Empties.emptied}
 use Rattle.runs.proofs.MoreBits.{not_zero}
 use Rattle.runs.proofs.Steps.{out_total, out_within}
 use Rattle.settling.specs.Report.{Report, Leads, Spends}

@@ -1,5 +1,4 @@
-use Rattle.std.proofs.Common.{ℕ, ◌<◌, length, refl, subst, arith, rules}
-use Rattle.std.proofs.lemmas.Bool.{false≢true, true≢false}
+use Rattle.std.proofs.Common.{ℕ, ◌<◌, length, refl, subst, rules}
 use Rattle.std.proofs.lemmas.Bool.Decides.{not_from_Decides}
 use Rattle.runs.specs.Settle.{Revises.kept}
 use Rattle.settling.proofs.Reports.{report_none}

@@ -1,4 +1,4 @@
-use Rattle.std.proofs.Common.{◌≡◌, ℕ, List, sym, refl, subst, arith}
+use Rattle.std.proofs.Common.{ℕ, List, sym, refl, subst, arith}
 use Rattle.runs.specs.Settle.{state, Fails}
 use Rattle.runs.proofs.Settling.{settles_law, settles_le, fails_law, fails_le, fails_known}
 use Rattle.runs.proofs.Unique.{only_settles, only_fails}

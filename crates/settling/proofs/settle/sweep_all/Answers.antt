@@ -1,4 +1,3 @@
-use Rattle.std.proofs.Common.{◌≡◌, true, false, sym, refl, subst}
 use Rattle.std.proofs.lemmas.Result.{err_from_is_err_and}
 use Rattle.runs.specs.Settle.{Settles.rest, Settles.again, Fails.at_once, Fails.later}
 use Rattle.settling.proofs.Reports.{report_differs}
