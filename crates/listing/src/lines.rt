@@ -115,7 +115,7 @@ fn push_rule(
 
 /// The lines of the rules.
 pub fn push_rules(out: &mut Vec<u8>, rules: &[RowsRule], places: &[u8]) -> Result<(), AllocError>
-    ensures* { λ r. ⌜ OnOk r (out.new.items ≡ out.old.items ++ numbered (λ r rule. rows_line r (field_of places.now rule)) 0 rules.now) ⌝ }
+    ensures { OnOk result (out.new.items ≡ out.old.items ++ numbered (λ r rule. rows_line r (field_of places.now rule)) 0 rules.now) }
 {
     for (number, rule) in rules.iter().enumerate() {
         push_rule(out, number, rule, places)?;

@@ -1,5 +1,5 @@
 //! What a Fit starts from, and what it leaves.
-ghost use Rattle.std.specs.Prelude.{◌≡◌, ℕ, ◌-◌, ◌^◌, ◌<◌, ◌≤◌, false, length, get_or, drop, None, slice_index, slice_index_or};
+ghost use Rattle.std.specs.Prelude.{◌≡◌, ℕ, ◌-◌, ◌^◌, ◌<◌, ◌≤◌, false, length, drop, None, slice_index, slice_index_or};
 ghost use Rattle.calls.specs.History.{set_where};
 ghost use Rattle.calls.specs.Runs.{start_of, starts};
 ghost use Rattle.opening.specs.Pins.{held, LowestByte};
@@ -50,7 +50,7 @@ pub fn set_starts(lengths: &[u8], pins: &[Option<u8>; 64], start: &mut [u64])
 /// The first rules that are on.
 pub fn rules_on(switches: &[bool; 64], count: u16) -> u64
     requires { count ≤ 64 }
-    ensures* { λ r. ⌜ r ≡ set_where (λ r. get_or switches.now r false) count ⌝ }
+    ensures { result ≡ set_where (λ r. slice_index_or switches.now r false) count }
 {
     let mut on = 0;
     for rule in 0..count {

@@ -1,15 +1,14 @@
 -- How many cells are open, and the room that their frames want. Assumes nothing.
-use Rattle.std.proofs.Common.{◌≡◌, ℕ, zero, suc, ◌+◌, ◌-◌, ◌*◌, ◌^◌, ◌<◌, ◌≤◌, Bool, true, false, cond, ltb, ◌≢◌, ◌⊎◌, List, [], ◌∷◌, length, get_or, set, sym, refl, ap, ◌∙◌, subst, inl, inr, mul-le-mul_right, suc-mul, arith, length-set}
+use Rattle.std.proofs.Common.{◌≡◌, ℕ, zero, suc, ◌+◌, ◌*◌, ◌^◌, ◌<◌, ◌≤◌, Bool, cond, ltb, List, [], ◌∷◌, length, get_or, set, ap, inl, inr, mul-le-mul_right, suc-mul, arith, length-set}
 use Rattle.std.proofs.lemmas.Nat.{mul-le}
 use Rattle.std.proofs.lemmas.List.{get_or-set_same}
 use Rattle.std.proofs.lemmas.Bool.{cases_lt, lt-ltb, le-ltb}
-use Rattle.bits.specs.Sets.{In, size}
-use Rattle.network.specs.Book.{BookMeaning, Remains}
-use Rattle.runs.specs.Settle.{left_at, out_of, total}
-use Rattle.runs.specs.Law.{Suits, Full, Within}
+use Rattle.bits.specs.Sets.{size}
+use Rattle.network.specs.Book.{BookMeaning}
+use Rattle.runs.specs.Law.{Full, Within}
 use Rattle.runs.proofs.MoreBits.{size_sub, size_pow}
-use Rattle.runs.proofs.Steps.{alone_within, alone_full, out_within}
-use Rattle.runs.proofs.Chosen.{Chosen, open_full}
+use Rattle.runs.proofs.Steps.{alone_within, alone_full}
+use Rattle.runs.proofs.Chosen.{Chosen}
 use Rattle.search.specs.Room.{opens, Able}
 
 abbrev flag : ℕ → ℕ

@@ -1,27 +1,16 @@
 -- Tries, from what the code writes. Assumes nothing.
-use Rattle.std.proofs.Common.{◌≡◌, ℕ, ◌+◌, ◌-◌, ◌*◌, ◌^◌, ◌<◌, ◌≤◌, Bool, true, false, ◌≢◌, ◌⊎◌, List, length, get_or, set, sym, refl, ap, ◌∙◌, subst, subst₂, inl, inr, arith, length-set}
+use Rattle.std.proofs.Common.{◌≡◌, ℕ, ◌+◌, ◌-◌, ◌*◌, ◌^◌, ◌<◌, ◌≤◌, Bool, true, false, ◌≢◌, List, length, get_or, set, sym, refl, ap, subst, inl, inr, arith, length-set}
 use mathlib.Core.Path.{subst₃}
 use Rattle.std.proofs.lemmas.Bool.{cases_eq}
 use Rattle.bits.specs.Sets.{In, Lowest, size}
 use Rattle.bits.proofs.Bits.{has_le}
-use Rattle.network.specs.Book.{BookMeaning, Remains}
+use Rattle.network.specs.Book.{BookMeaning}
 use Rattle.choosers.specs.Choice.{Machine, Naming}
-use Rattle.choosers.specs.declared.chooser.Event.TheVariants.{Start, Failed, Stood}
+use Rattle.choosers.specs.declared.chooser.Event.TheVariants.{Failed, Stood}
 use Rattle.runs.specs.Settle.{State, state, left_at, out_of, total, Settles, Fails}
 use Rattle.runs.specs.Figures.{figures_of}
-use Rattle.runs.specs.Run.{
-  Choice,
-  TryFails,
-  TryFails.at_first,
-  TryFails.at_last,
-  TryStands,
-  Explores,
-  Explores.filled,
-  Explores.stands,
-  Explores.goes_on,
-  Explores.ends,
-}
-use Rattle.runs.specs.Law.{Settled, Within, Full}
+use Rattle.runs.specs.Run.{Choice, TryFails, TryFails.at_first, TryFails.at_last, TryStands, Explores, Explores.stands, Explores.goes_on, Explores.ends}
+use Rattle.runs.specs.Law.{Settled}
 use Rattle.runs.proofs.MoreBits.{size_pow, size_zero}
 use Rattle.runs.proofs.Steps.{total_set, out_total, out_within}
 use Rattle.runs.proofs.Chosen.{Chosen, chosen, named-within, open_full}

@@ -21,7 +21,7 @@ returns-in-Err g c = made_so c.push_fault.result
     )) c.push_fault.ensures
 
 pub overflow_cast-cells : goal.overflow_cast-cells
-overflow_cast-cells g c = let f = opens_few (sheet c.args.lengths.now (g.B.RuleBook.meaning c.args.book)) c.in-default.ensures in search rules
+overflow_cast-cells g c = let f = opens_few (sheet c.args.lengths.now (g.B.RuleBook.meaning c.args.book)) c.in_default.ensures in search rules
 
 pub returns : goal.returns
 returns g c =
@@ -32,5 +32,5 @@ returns g c =
     let promise = subst (λ l. FillingsAndCores s l after) c.requires.alone c.play.ensures.promise in
     let runs = subst (λ l. PlaysByRuns usual s [] (fresh usual_start) l after (lasting_of c.play.result)) c.requires.alone
     (subst (λ x. PlaysByRuns usual s [] (fresh x) c.args.steps.now after (lasting_of c.play.result)) c.new.ensures c.play.ensures.runs) in
-    let text = told usual usual_start s number b after (lasting_of c.play.result) c.requires.call c.in-default.ensures c.requires.enough promise runs (get_or after 0 c.index-steps-0.result) (ap (get_or after 0) c.index-steps-0.is) in
+    let text = told usual usual_start s number b after (lasting_of c.play.result) c.requires.call c.in_default.ensures c.requires.enough promise runs (get_or after 0 c.index-steps-0.result) (ap (get_or after 0) c.index-steps-0.is) in
     made_so c.push_answer.result (λ e. (_, e, text)) c.push_answer.ensures

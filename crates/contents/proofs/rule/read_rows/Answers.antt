@@ -4,8 +4,8 @@ use Rattle.contents.proofs.Rows.{no_head, head_width, part_of_row, bad_row, all_
 use Rattle.contents.proofs.rule.read_rows.Goals as goal
 use Rattle.contents.proofs.rule.read_rows.Goals.{then-rest-width-ne0-via-then-rest-width-ne0, then-rest-width-ne0-via-else-rest-width-ne0+then-not-are-rows}
 
-pub returns-in-default : goal.returns-in-default
-returns-in-default c = no_head c.args.content.now c.args.lengths.now c.args.tag c.in-default.ensures
+pub returns-in_default : goal.returns-in_default
+returns-in_default c = no_head c.args.content.now c.args.lengths.now c.args.tag c.in_default.ensures
 
 pub returns-then-rest-width-ne0 : goal.returns-then-rest-width-ne0
 returns-then-rest-width-ne0 c =

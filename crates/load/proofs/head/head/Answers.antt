@@ -9,8 +9,8 @@ use Rattle.load.proofs.head.head.Goals as goal
 pub returns-then-at-file : goal.returns-then-at-file
 returns-then-at-file c = record { inside = tt; room = tt; decided = λ s e. past s c.args.extent e c.args.file.now c.args.at c.if-at-file.true }
 
-pub returns-in-default : goal.returns-in-default
-returns-in-default c = record { inside = tt; room = tt; decided = λ s e. no-tag s c.args.extent e c.args.file.now c.args.at c.if-at-file.false c.in-default.ensures }
+pub returns-in_default : goal.returns-in_default
+returns-in_default c = record { inside = tt; room = tt; decided = λ s e. no-tag s c.args.extent e c.args.file.now c.args.at c.if-at-file.false c.in_default.ensures }
 
 pub returns-then-not-comes : goal.returns-then-not-comes
 returns-then-not-comes c = record {

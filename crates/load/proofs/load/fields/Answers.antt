@@ -42,7 +42,7 @@ loop-next-preserved c = let a = advanced c in (a.sheet, a.begun, a.stores, a.ext
 pub returns : goal.returns
 returns c =
     let i = c.loop-next.invariant in
-    let e = MatchOption-at_none _ _ c.in-default.is (c.in_ok-next.ensures.advances (held c.args.stores.now) i.0 c.requires.enough i.1 i.2 i.3) in
+    let e = MatchOption-at_none _ _ c.in_default.is (c.in_ok-next.ensures.advances (held c.args.stores.now) i.0 c.requires.enough i.1 i.2 i.3) in
     record {
       sized = same_then i.4 c.in_ok-next.ensures.sized;
       decided = record {

@@ -1,4 +1,4 @@
-use Rattle.std.proofs.Common.{ℕ, ◌<◌, ◌≤◌}
+use Rattle.std.proofs.Common.{ℕ, ◌<◌}
 use Rattle.calls.specs.Sheet.{Within}
 use Rattle.opening.proofs.check.are_named.Given as goal
 

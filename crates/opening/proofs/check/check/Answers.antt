@@ -1,5 +1,5 @@
-use Rattle.std.proofs.Common.{◌≡◌, ℕ, ◌<◌, ◌≤◌, sym, refl, ap, ◌∙◌, subst, arith}
-use Rattle.calls.specs.Sheet.{Checked, Checked.passes, Checked.lists, Checked.rules, Checked.missing}
+use Rattle.std.proofs.Common.{arith}
+use Rattle.calls.specs.Sheet.{Checked.passes, Checked.lists, Checked.rules, Checked.missing}
 use Rattle.cores.proofs.SetFacts.{decides_not}
 use Rattle.opening.proofs.check.check.Goals as goal
 

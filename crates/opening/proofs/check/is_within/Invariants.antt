@@ -1,4 +1,4 @@
-use Rattle.std.proofs.Common.{ℕ, ◌<◌, ◌≤◌, get_or}
+use Rattle.std.proofs.Common.{ℕ, ◌<◌, get_or}
 use Rattle.opening.proofs.check.is_within.Given as goal
 
 abbrev pub invariant-loop-position : goal.invariant-loop-position

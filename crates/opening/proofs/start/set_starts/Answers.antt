@@ -1,4 +1,4 @@
-use Rattle.std.proofs.Common.{◌≡◌, ℕ, ◌<◌, length, get_or, None, sym, refl, ap, ◌∙◌, arith}
+use Rattle.std.proofs.Common.{length, get_or, None, ◌∙◌, arith}
 use Rattle.std.proofs.lemmas.List.FromFn.{fill_by_all}
 use Rattle.calls.specs.Runs.{start_of}
 use Rattle.opening.specs.Pins.{held}

@@ -1,4 +1,4 @@
-use Rattle.std.proofs.Common.{ℕ, ◌<◌, length, arith}
+use Rattle.std.proofs.Common.{◌<◌, length, arith}
 use Rattle.opening.proofs.Starting.{lowest_more}
 use Rattle.opening.proofs.start.write_lowest.Goals as goal
 

@@ -1,4 +1,4 @@
-use Rattle.std.proofs.Common.{◌≡◌, ℕ, ◌^◌, ◌<◌, ◌≤◌, List, length, set, sym, refl, ap, ◌∙◌, subst, lt_of_le_of_lt, arith, length-set}
+use Rattle.std.proofs.Common.{ℕ, List, length, set, sym, refl, ap, ◌∙◌, subst, lt_of_le_of_lt, arith}
 use Rattle.std.proofs.lemmas.Bool.{false≢true, true≢false}
 use Rattle.network.specs.Book.{Remains}
 use Rattle.choosers.specs.declared.chooser.Event.TheVariants.{Failed}
@@ -24,7 +24,7 @@ use Rattle.search.proofs.Tries.{
   met_at,
 }
 use Rattle.search.proofs.explore.+attempt_explore.Goals as goal
-use Rattle.search.proofs.explore.+attempt_explore.Goals.{attempt-in-Ok+else-explore, attempt-in-default}
+use Rattle.search.proofs.explore.+attempt_explore.Goals.{attempt-in-Ok+else-explore, attempt-in_default}
 
 pub attempt-settle-requires : goal.attempt-settle-requires
 attempt-settle-requires g t c =
@@ -32,8 +32,8 @@ attempt-settle-requires g t c =
     (sym (c.only.ensures.one c.requires.small)) c.requires.able in
     record { suits = a.suits; full = a.full; weighted = a.weighted }
 
-pub attempt_explore-requires : goal.attempt_explore-requires
-attempt_explore-requires g t c κs within =
+pub attempt-explore-requires : goal.attempt-explore-requires
+attempt-explore-requires g t c κs within =
     let e = c.only.ensures.one c.requires.small in
     let a = subst (λ (x : ℕ). Able (g.B.RuleBook.meaning c.args.book.now) (set c.args.sets.now c.args.trial.cell x) (length c.args.weights.now) (length c.args.work.now))
     (sym e) c.requires.able in (
@@ -60,11 +60,11 @@ attempt-returns g t c =
         | attempt-in-Ok+else-explore w ↦
             subst (λ (x : State). TryFails k m c.args.listed c.args.chooser.now s c.args.trial.cell c.args.trial.place c.tell-2.new.self x)
             (sym (met_at w.sets-is w.used-is w.weights-is))
-            (try_last e w.tell.ensures (c.tell-2.ensures ∙ ap (λ (x : g.row.C.Denot). k.told x (Failed c.args.trial.cell)) w.chooser_is) w.in-Ok.ensures.steps w.if-explore.ensures)
-        | attempt-in-default w ↦
+            (try_last e w.tell.ensures (c.tell-2.ensures ∙ ap (λ (x : g.row.C.Denot). k.told x (Failed c.args.trial.cell)) w.chooser-is) w.in-Ok.ensures.steps w.if-explore.ensures)
+        | attempt-in_default w ↦
             subst (λ (x : State). TryFails k m c.args.listed c.args.chooser.now s c.args.trial.cell c.args.trial.place c.tell-2.new.self x)
             (sym (met_at w.sets-is w.used-is w.weights-is))
-            (try_first e (c.tell-2.ensures ∙ ap (λ (x : g.row.C.Denot). k.told x (Failed c.args.trial.cell)) w.chooser_is) w.in-default.ensures.steps)
+            (try_first e (c.tell-2.ensures ∙ ap (λ (x : g.row.C.Denot). k.told x (Failed c.args.trial.cell)) w.chooser-is) w.in_default.ensures.steps)
       ];
     }
 
@@ -151,7 +151,7 @@ explore-tries-smaller g t c =
     let p = picked k g.C.Chooser.laws m c.args.listed c.tries.chooser c.tries.sets c.tries.used c.tries.weights c.choose-cell.result c.lowest.result
     c.choose-cell.ensures c.if-cell.false c.lowest.ensures.some in
     let b = c.retreat.ensures ∙ ap (λ (x : List ℕ). out_of x c.choose-cell.result c.lowest.result) c.copy_from_slice.ensures.after in
-    lt_of_le_of_lt c.in-default.ensures.less (out_falls _ _ _ _ p.known b)
+    lt_of_le_of_lt c.in_default.ensures.less (out_falls _ _ _ _ p.known b)
 
 pub explore-tries-preserved : goal.explore-tries-preserved
 explore-tries-preserved g t c =
@@ -161,7 +161,7 @@ explore-tries-preserved g t c =
     c.choose-cell.ensures c.if-cell.false c.lowest.ensures.some in
     let b = c.retreat.ensures ∙ ap (λ (x : List ℕ). out_of x c.choose-cell.result c.lowest.result) c.copy_from_slice.ensures.after in
     let a = able_out c.tries.invariant.2 p.known c.retreat.new.sets (length c.attempt.new.weights) b (c.attempt.auto.weights ∙ c.tries.auto.weights) in (
-      λ found y u h. c.tries.invariant.0 found y u (goes_on_with p.choice (c.if-attempt.ensures.failed refl) b c.in-default.ensures.steps h),
-      le_of_lt_le c.in-default.ensures.less (out_falls _ _ _ _ p.known b) c.tries.invariant.1,
-      able_settled _ _ a c.in-default.ensures.law (sym (c.attempt.auto.weights ∙ c.tries.auto.weights)) refl,
+      λ found y u h. c.tries.invariant.0 found y u (goes_on_with p.choice (c.if-attempt.ensures.failed refl) b c.in_default.ensures.steps h),
+      le_of_lt_le c.in_default.ensures.less (out_falls _ _ _ _ p.known b) c.tries.invariant.1,
+      able_settled _ _ a c.in_default.ensures.law (sym (c.attempt.auto.weights ∙ c.tries.auto.weights)) refl,
     )

@@ -1,5 +1,4 @@
-use Rattle.std.proofs.Common.{◌≡◌, ℕ, true, false, List, length, sym, refl, subst, subst₂, arith}
-use Rattle.choosers.specs.declared.chooser.Event.TheVariants.{Start}
+use Rattle.std.proofs.Common.{ℕ, true, false, List, length, sym, refl, subst, subst₂}
 use Rattle.runs.specs.Settle.{State, state}
 use Rattle.runs.specs.Run.{Searches, Run.ran}
 use Rattle.runs.proofs.Running.{run_right, run_fills}
