@@ -1,5 +1,5 @@
 -- What a Pin, a Free or a Switch comes to. Assumes nothing.
-use Rattle.std.proofs.Common.{◌≡◌, ℕ, ◌<◌, ◌≤◌, ◌≢◌, List, Ok, Err, Result, sym, refl, subst, arith}
+use Rattle.std.proofs.Common.{◌≡◌, ℕ, ◌≢◌, List, Err, Result, sym, refl, subst, arith}
 use Rattle.network.specs.Book.{BookMeaning}
 use Rattle.choosers.specs.Choice.{Machine}
 use Rattle.runs.specs.declared.line.Line.{Line}
@@ -7,9 +7,8 @@ use Rattle.clash.specs.declared.fitted.Fitted.{Fitted as Values}
 use Rattle.calls.specs.declared.call.Call.{Call}
 use Rattle.calls.specs.declared.refusal.Refusal.{Refusal}
 use Rattle.calls.specs.declared.refusal.Refusal.TheVariants.{Shut}
-use Rattle.calls.specs.declared.answer.Answer.{Answer}
 use Rattle.calls.specs.Answers.{to_change, to_fit}
-use Rattle.calls.specs.Sheet.{Sheet, Checked, Checked.passes, Checked.lists, Checked.rules, Checked.missing, Opens, Judged, Judged.shut}
+use Rattle.calls.specs.Sheet.{Sheet, Checked, Checked.passes, Checked.lists, Checked.rules, Checked.missing, Opens, Judged.shut}
 use Rattle.session.specs.declared.session.Session.{Session}
 use Rattle.session.specs.Calls.{sheet_of, Changed, FitCalled}
 

@@ -1,5 +1,5 @@
 -- From the runs of a Fit to what it returns. Assumes nothing.
-use Rattle.std.proofs.Common.{◌≡◌, ℕ, ◌/◌, ◌%◌, ◌^◌, ◌<◌, ◌≤◌, Bool, true, false, cond, ltb, List, length, get_or, take, drop, Some, None, Option, sym, refl, ap, ◌∙◌, subst, subst₂, arith}
+use Rattle.std.proofs.Common.{◌≡◌, ℕ, ◌<◌, ◌≤◌, Bool, true, false, cond, ltb, List, length, get_or, take, drop, Some, None, Option, sym, refl, ◌∙◌, subst, subst₂, arith}
 use Rattle.std.proofs.lemmas.List.{ext_get_or, get_or-take, length-take-le}
 use Rattle.std.proofs.lemmas.Bool.{ltb-true}
 use Rattle.bits.specs.Sets.{In}
@@ -12,12 +12,11 @@ use Rattle.runs.specs.Law.{Ready, Fills}
 use Rattle.cores.specs.Core.{Outcome, Outcome.left, Outcome.core}
 use Rattle.cores.specs.Fit.{Fit}
 use Rattle.clash.specs.declared.fitted.Fitted.{Fitted as Values}
-use Rattle.clash.specs.Running.{Lasting, lasting}
+use Rattle.clash.specs.Running.{lasting}
 use Rattle.clash.specs.Logged.{Answers, Logged}
-use Rattle.calls.specs.Sheet.{Sheet, cells, Opens}
+use Rattle.calls.specs.Sheet.{cells, Opens}
 use Rattle.calls.specs.History.{Valid}
-use Rattle.calls.specs.Promise.{Keeps}
-use Rattle.calls.specs.Runs.{Ran, starts, Alone, Comes, FitRuns}
+use Rattle.calls.specs.Runs.{Ran, Alone, Comes}
 use Rattle.calls.proofs.Fillings.{ready, starts_long, where_small}
 use Rattle.calls.proofs.Promising.{first_run}
 use Rattle.opening.specs.Pins.{held, LowestByte}

@@ -1,5 +1,5 @@
 -- What a session is, and what the single calls change. Assumes nothing.
-use Rattle.std.specs.Prelude.{◌≡◌, ℕ, ◌<◌, Bool, true, false, ◌≢◌, List, length, get_or, replicate, Some, None, Option, slice_index, slice_index_or, slice_set}
+use Rattle.std.specs.Prelude.{◌≡◌, ℕ, true, false, ◌≢◌, List, length, get_or, replicate, Some, None, slice_index, slice_index_or, slice_set}
 use Rattle.network.specs.Book.{BookMeaning}
 use Rattle.choosers.specs.Choice.{Machine}
 use Rattle.runs.specs.declared.line.Line.{Line}

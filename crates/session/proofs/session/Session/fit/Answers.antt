@@ -1,8 +1,8 @@
-use Rattle.std.proofs.Common.{◌≡◌, ℕ, ◌-◌, ◌<◌, ◌≤◌, List, length, take, drop, replicate, Err, refl, ap, ◌∙◌, arith}
+use Rattle.std.proofs.Common.{◌≡◌, ℕ, ◌-◌, ◌≤◌, List, length, take, drop, replicate, Err, refl, ap, ◌∙◌, arith}
 use native.Mathlib.Nat.{sub-zero}
 use Rattle.std.proofs.lemmas.List.{length-take-le}
 use Rattle.std.proofs.lemmas.Result.{err_from_is_err_and}
-use Rattle.calls.specs.Sheet.{Judged, Judged.fits, Judged.fits_short}
+use Rattle.calls.specs.Sheet.{Judged.fits, Judged.fits_short}
 use Rattle.calls.proofs.Fillings.{few_cells}
 use Rattle.cores.proofs.SetFacts.{decides_not}
 use Rattle.session.specs.Calls.{sheet_of}

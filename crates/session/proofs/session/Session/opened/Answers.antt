@@ -1,4 +1,4 @@
-use Rattle.std.proofs.Common.{◌≡◌, refl}
+use Rattle.std.proofs.Common.{refl}
 use Rattle.calls.proofs.Following.{refused_not_done}
 use Rattle.session.proofs.Changing.{checked_not}
 use Rattle.session.proofs.session.Session.opened.Goals as goal

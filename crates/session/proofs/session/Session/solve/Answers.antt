@@ -1,4 +1,4 @@
-use Rattle.std.proofs.Common.{◌≡◌, ℕ, ◌<◌, ◌≤◌, false, length, get_or, sym, refl, ap, ◌∙◌, arith}
+use Rattle.std.proofs.Common.{false, get_or, sym, ap, ◌∙◌, arith}
 use Rattle.calls.specs.History.{set_where}
 use Rattle.calls.proofs.Fillings.{few_cells, few_rules, listed}
 use Rattle.session.specs.Calls.{sheet_of}

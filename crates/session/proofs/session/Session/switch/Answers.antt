@@ -1,8 +1,8 @@
-use Rattle.std.proofs.Common.{◌≡◌, ℕ, ◌<◌, ◌≤◌, length, Err, refl, ap, ◌∙◌, arith}
+use Rattle.std.proofs.Common.{Err, refl, ap, ◌∙◌, arith}
 use Rattle.std.proofs.lemmas.Result.{err_from_is_err_and}
 use Rattle.calls.specs.declared.call.Call.TheVariants.{Switch}
-use Rattle.calls.specs.Sheet.{Judged, Judged.pins, Judged.pins_no_cell, Judged.pins_no_place, Judged.frees, Judged.frees_no_cell, Judged.switches, Judged.switches_no_rule}
-use Rattle.calls.proofs.Fillings.{few_cells, few_rules}
+use Rattle.calls.specs.Sheet.{Judged.switches, Judged.switches_no_rule}
+use Rattle.calls.proofs.Fillings.{few_rules}
 use Rattle.session.specs.Calls.{sheet_of}
 use Rattle.session.proofs.Changing.{changed_shut}
 use Rattle.session.proofs.session.Session.switch.Goals as goal
