@@ -36,9 +36,9 @@ holds-requires-else-init-2 t c =
 pub returns-in-Compare : goal.returns-in-Compare
 returns-in-Compare t c = λ d h.
     let v = seen d c.args.nodes.now c.args.at c.args.numbers.now (Compare c.in-Compare.left c.in-Compare.by c.in-Compare.right) c.in-Compare.is h in
-    let a = to_z-of_z w64 c.worth-of.result (record { sfits = c.worth-of.type-inv }) ∙ c.worth-of.ensures in
-    let b = to_z-of_z w64 c.worth-of-in-Compare.result (record { sfits = c.worth-of-in-Compare.type-inv }) ∙ c.worth-of-in-Compare.ensures in
-    c.is-related.ensures ∙ ap₂ (related c.in-Compare.by) a b ∙ sym v
+    let a = to_z-of_z w64 c.worth_of.result (record { sfits = c.worth_of.type_inv }) ∙ c.worth_of.ensures in
+    let b = to_z-of_z w64 c.worth_of-in-Compare.result (record { sfits = c.worth_of-in-Compare.type_inv }) ∙ c.worth_of-in-Compare.ensures in
+    c.is_related.ensures ∙ ap₂ (related c.in-Compare.by) a b ∙ sym v
 
 pub returns-in-Not : goal.returns-in-Not
 returns-in-Not t c = λ d h.
