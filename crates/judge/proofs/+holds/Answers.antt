@@ -1,8 +1,8 @@
-use Rattle.std.proofs.Common.{◌≡◌, true, false, not, ◌&&◌, ◌||◌, get_or, sym, refl, ap, ◌∙◌, ap₂, arith, w64}
+use Rattle.std.proofs.Common.{not, ◌&&◌, ◌||◌, sym, ap, ◌∙◌, ap₂, arith, w64}
 use Rattle.formulas.specs.declared.node.Node.TheVariants.{Free, Compare, Not, And, Or}
 use Rattle.std.proofs.lemmas.Int.{to_z-of_z}
 use Rattle.formulas.specs.Truth.{truth, related}
-use Rattle.formulas.proofs.Standings.{View, seen, child_standing}
+use Rattle.formulas.proofs.Standings.{seen, child_standing}
 use Rattle.judge.proofs.+holds.Goals as goal
 
 pub unreachable-requires : goal.unreachable-requires
@@ -18,8 +18,8 @@ holds-requires-in-And t c =
     let v = seen c.requires.is c.args.nodes.now c.args.at c.args.numbers.now (And c.in-And.first c.in-And.rest) c.in-And.is c.requires.stands in
     (omega (arith, v.0.less, c.decreases), child_standing c.requires.within v.0)
 
-pub holds-requires-then-init : goal.holds-requires-then-init
-holds-requires-then-init t c =
+pub holds-requires-then-holds : goal.holds-requires-then-holds
+holds-requires-then-holds t c =
     let v = seen c.requires.is c.args.nodes.now c.args.at c.args.numbers.now (And c.in-And.first c.in-And.rest) c.in-And.is c.requires.stands in
     (omega (arith, v.1.less, c.decreases), child_standing c.requires.within v.1)
 
@@ -28,8 +28,8 @@ holds-requires-in-Or t c =
     let v = seen c.requires.is c.args.nodes.now c.args.at c.args.numbers.now (Or c.in-Or.first c.in-Or.rest) c.in-Or.is c.requires.stands in
     (omega (arith, v.0.less, c.decreases), child_standing c.requires.within v.0)
 
-pub holds-requires-else-init-2 : goal.holds-requires-else-init-2
-holds-requires-else-init-2 t c =
+pub holds-requires-else-holds-2 : goal.holds-requires-else-holds-2
+holds-requires-else-holds-2 t c =
     let v = seen c.requires.is c.args.nodes.now c.args.at c.args.numbers.now (Or c.in-Or.first c.in-Or.rest) c.in-Or.is c.requires.stands in
     (omega (arith, v.1.less, c.decreases), child_standing c.requires.within v.1)
 

@@ -1,4 +1,4 @@
-use Rattle.std.proofs.Common.{◌≡◌, ◌+◌, ◌/◌, ◌%◌, [], ◌∷◌, ◌++◌, vec_items, sym, refl, ap, ◌∙◌, arith}
+use Rattle.std.proofs.Common.{◌/◌, ◌++◌, vec_items, refl, ap, ◌∙◌}
 use Rattle.formulas.specs.Tree.{numeral}
 use Rattle.text.proofs.Appends.{made_so, after, digit, digits}
 use Rattle.text.proofs.+push_digits.Goals as goal
