@@ -1,4 +1,4 @@
-use Rattle.std.proofs.Common.{◌≡◌, List, ◌++◌, length, replicate, pos, vec_items, sym, refl, ap, ◌∙◌, arith}
+use Rattle.std.proofs.Common.{◌++◌, replicate, pos, vec_items, ap, ◌∙◌}
 use Rattle.text.proofs.Appends.{made_so}
 use Rattle.preview.specs.Preview.{faulty, read, fault_line, permits, told, permitted, rows, list_of}
 use Rattle.preview.proofs.Answering.{stands_there, standing_there, cells_there}

@@ -1,4 +1,4 @@
-use Rattle.std.proofs.Common.{◌≡◌, [], ◌∷◌, ◌++◌, vec_items, codes, sym, refl, ap, ◌∙◌}
+use Rattle.std.proofs.Common.{[], ◌∷◌, ◌++◌, vec_items, codes, ap, ◌∙◌}
 use Rattle.formulas.specs.Tree.{numeral}
 use Rattle.text.proofs.Appends.{made_so, after}
 use Rattle.preview.proofs.lines.push_fault.Goals as goal

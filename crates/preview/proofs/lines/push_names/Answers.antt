@@ -1,4 +1,4 @@
-use Rattle.std.proofs.Common.{◌≡◌, [], ◌∷◌, ◌++◌, vec_items, sym, refl, ap, ◌∙◌}
+use Rattle.std.proofs.Common.{[], ◌∷◌, vec_items, sym}
 use Rattle.formulas.specs.Tree.{numeral}
 use Rattle.text.proofs.Appends.{made_so, after}
 use Rattle.preview.proofs.Texts.{word_more, line_all}

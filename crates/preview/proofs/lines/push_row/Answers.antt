@@ -1,4 +1,4 @@
-use Rattle.std.proofs.Common.{◌≡◌, [], ◌∷◌, ◌++◌, get_or, pos, vec_items, sym, refl, ap, ◌∙◌, w32}
+use Rattle.std.proofs.Common.{◌++◌, get_or, pos, vec_items, refl, ap, ◌∙◌, w32}
 use Rattle.std.proofs.lemmas.Int.{to_z-of_z}
 use Rattle.formulas.specs.Tree.{number_text}
 use Rattle.text.proofs.Appends.{made_so}
