@@ -1,18 +1,15 @@
 -- What can come after the bytes read so far, and which byte is outside the grammar there. Assumes nothing.
-use Rattle.std.proofs.Common.{◌≡◌, ℕ, suc, ◌+◌, ◌-◌, ◌<◌, ◌≤◌, Bool, true, false, ◌≢◌, ◌⊎◌, List, [], ◌∷◌, ◌++◌, length, get_or, take, drop, pos, negsuc, sym, refl, ap, ◌∙◌, subst, inl, inr, ⊎_elim, append_assoc, append-nil, arith, take-append-drop}
-use Rattle.std.proofs.lemmas.List.{append_cancel_left, drop_more, take_more, same_from_push, length-take-le}
-use Rattle.std.proofs.lemmas.Bool.{cases_lt, cases_eq}
-use Rattle.formulas.specs.declared.node.Shift.{Shift}
-use Rattle.formulas.specs.declared.node.Shift.TheVariants.{Bare, Plus, Minus}
+use Rattle.std.proofs.Common.{◌≡◌, ℕ, ◌+◌, ◌<◌, ◌≤◌, Bool, true, false, ◌≢◌, List, [], ◌∷◌, ◌++◌, length, get_or, take, drop, pos, sym, refl, ap, ◌∙◌, subst, ⊎_elim, append_assoc, append-nil, arith, take-append-drop}
+use Rattle.std.proofs.lemmas.List.{append_cancel_left, drop_more, take_more, same_from_push}
 use Rattle.formulas.specs.declared.node.Side.{Side}
-use Rattle.formulas.specs.declared.node.Side.TheVariants.{Number, Cell}
+use Rattle.formulas.specs.declared.node.Side.TheVariants.{Number}
 use Rattle.formulas.specs.declared.node.Relation.{Relation}
 use Rattle.formulas.specs.declared.node.Relation.TheVariants.{Equal}
-use Rattle.formulas.specs.Tree.{Condition, compares, negates, all, any, Conditions, one, more, numeral, shift_text, side_text, relation_text, text, list_text, not_word, and_word, or_word}
-use Rattle.formulas.specs.Faults.{next, Digit, NoDigitBefore, Begins, Outside, TooDeep, level, count}
-use Rattle.formulas.specs.Reading.{Spans, Fresh, Awaits, AwaitsList, AwaitsSide, Follows, ends, closes, goes_on, EndsShift, EndsSide, EndsRelation, Ends, Deep}
-use Rattle.formulas.proofs.Unique.{uncons, unique, unique_list, ends_closed, ends_comma, ends_condition, ends_any, follow_ends, held, apart, SideFirst, side_first, compares_first, side_unique, relation_first, relation_ends, relation_bytes, relation_unique, side_ends_relation}
-use Rattle.formulas.proofs.Spans.{spans_take, spans_split, spans_next, spans_each, after_word, word_next, next_at, there}
+use Rattle.formulas.specs.Tree.{Condition, compares, negates, all, any, Conditions, one, more, side_text, relation_text, text, list_text, not_word, and_word, or_word}
+use Rattle.formulas.specs.Faults.{next, Digit, NoDigitBefore, Outside, TooDeep, count}
+use Rattle.formulas.specs.Reading.{Spans, Fresh, Awaits, AwaitsList, AwaitsSide, Follows, ends, closes, goes_on, EndsSide, EndsRelation, Ends, Deep}
+use Rattle.formulas.proofs.Unique.{uncons, unique, ends_closed, ends_comma, ends_condition, ends_any, follow_ends, held, apart, SideFirst, side_first, compares_first, side_unique, relation_first, relation_ends, relation_bytes, relation_unique, side_ends_relation}
+use Rattle.formulas.proofs.Spans.{spans_take, spans_split, spans_next, spans_each, after_word, word_next, next_at}
 use Rattle.formulas.proofs.Levels.{deep_flat, deep_level}
 
 -- bytes that end with b

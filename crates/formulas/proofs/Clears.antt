@@ -1,5 +1,5 @@
 -- No fault 7 or 8 in what is within the limits. Assumes nothing.
-use Rattle.std.proofs.Common.{◌≡◌, ℕ, suc, ◌+◌, ◌-◌, ◌<◌, ◌≤◌, max, ◌≢◌, ◌⊎◌, List, [], ◌∷◌, ◌++◌, length, take, drop, ℤ, pos, negsuc, sym, refl, ap, ◌∙◌, subst, inl, inr, ⊎_elim, append_assoc, append-nil, arith}
+use Rattle.std.proofs.Common.{◌≡◌, ℕ, suc, ◌+◌, ◌-◌, ◌<◌, ◌≤◌, ◌≢◌, ◌⊎◌, List, [], ◌∷◌, ◌++◌, length, take, drop, pos, negsuc, sym, refl, ap, ◌∙◌, subst, inl, inr, ⊎_elim, append_assoc, arith}
 use Rattle.std.proofs.lemmas.Bool.{cases_lt, cases_eq}
 use Rattle.formulas.specs.declared.node.Shift.{Shift}
 use Rattle.formulas.specs.declared.node.Shift.TheVariants.{Bare, Plus, Minus}
@@ -8,13 +8,13 @@ use Rattle.formulas.specs.declared.node.Side.TheVariants.{Number, Cell}
 use Rattle.formulas.specs.declared.node.Relation.{Relation}
 use Rattle.formulas.specs.declared.node.Relation.TheVariants.{Equal, NotEqual, Less, LessEqual, Greater, GreaterEqual}
 use Rattle.formulas.specs.Tree.{Condition, compares, negates, all, any, Conditions, one, more, numeral, shift_text, side_text, relation_text, text, list_text, levels, list_levels, not_word, and_word, or_word, Known, KnownAll, KnownSide, KnownShift}
-use Rattle.formulas.specs.Faults.{next, Digit, count, level, TooDeep, TooLarge, Oversize, cell, digits, negative}
+use Rattle.formulas.specs.Faults.{next, Digit, count, level, TooLarge, Oversize, cell, digits, negative}
 use Rattle.formulas.specs.Reading.{Spans, Clear, Deep, EndsShift, EndsSide, Ends}
-use Rattle.formulas.proofs.Numerals.{AllDigits, digits_numeral, numeral_next, numeral_prefix}
-use Rattle.formulas.proofs.Unique.{SideFirst, uncons, shift_ends, relation_ends, side_first, ends_any, ends_closed, ends_comma}
+use Rattle.formulas.proofs.Numerals.{digits_numeral, numeral_next, numeral_prefix}
+use Rattle.formulas.proofs.Unique.{SideFirst, uncons, shift_ends, relation_ends, ends_any, ends_closed, ends_comma}
 use Rattle.formulas.proofs.Spans.{spans_byte, spans_split, spans_next, spans_digits}
 use Rattle.formulas.proofs.Firsts.{large_first}
-use Rattle.formulas.proofs.Levels.{deep_flat, deep_open, deep_level, balanced, balanced_side, balanced_relation, balanced_append, levels_some, list_levels_some}
+use Rattle.formulas.proofs.Levels.{deep_flat, deep_open, deep_level, balanced, levels_some, list_levels_some}
 
 -- bytes that are no brackets and begin no side
 abbrev pub Plain : List ℕ → Type 0

@@ -1,11 +1,10 @@
 -- A text is accepted or has a first fault, and not both. Assumes nothing.
-use Rattle.std.proofs.Common.{◌≡◌, ℕ, ◌+◌, ◌<◌, ◌≤◌, List, [], ◌∷◌, ◌++◌, length, take, drop, sym, refl, ap, ◌∙◌, subst, ⊎_elim, append-nil, arith, take-append-drop}
+use Rattle.std.proofs.Common.{◌≡◌, ℕ, ◌≤◌, List, ◌++◌, length, drop, sym, refl, ap, ◌∙◌, ⊎_elim, append-nil, arith, take-append-drop}
 use Rattle.std.proofs.lemmas.List.{drop_all}
 use Rattle.formulas.specs.declared.fault.Flaw.{Flaw}
 use Rattle.formulas.specs.declared.fault.Flaw.TheVariants.{Grammar, Level, Range, Cells}
-use Rattle.formulas.specs.declared.node.Shift.TheVariants.{Bare}
 use Rattle.formulas.specs.Tree.{Condition, text, cells_of}
-use Rattle.formulas.specs.Faults.{next, Fault, First, Accepted}
+use Rattle.formulas.specs.Faults.{Fault, First, Accepted}
 use Rattle.formulas.specs.Reading.{Spans, Clear, EndsShift}
 use Rattle.formulas.proofs.Unique.{ends_condition}
 use Rattle.formulas.proofs.Spans.{next_end}

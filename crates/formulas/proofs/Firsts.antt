@@ -1,10 +1,10 @@
 -- Which fault is the first, from what is known of the bytes before it. Assumes nothing.
-use Rattle.std.proofs.Common.{◌≡◌, ℕ, suc, ◌+◌, ◌-◌, ◌<◌, ◌≤◌, ◌≢◌, ◌⊎◌, List, [], ◌∷◌, ◌++◌, length, take, drop, sym, refl, ap, ◌∙◌, subst, inl, inr, ⊎_elim, append-nil, arith, length-append, length-drop, take-append-drop}
+use Rattle.std.proofs.Common.{◌≡◌, ℕ, ◌+◌, ◌<◌, ◌≤◌, List, [], ◌∷◌, ◌++◌, length, take, drop, sym, refl, ap, ◌∙◌, subst, inl, inr, ⊎_elim, append-nil, arith, length-append, length-drop, take-append-drop}
 use Rattle.std.proofs.lemmas.Bool.{cases_lt, cases_eq}
 use Rattle.formulas.specs.declared.fault.Flaw.{Flaw}
 use Rattle.formulas.specs.declared.fault.Flaw.TheVariants.{Grammar, Level, Range, Cells}
-use Rattle.formulas.specs.Tree.{Condition, text, numeral, cells_of}
-use Rattle.formulas.specs.Faults.{next, Digit, Begins, Outside, TooDeep, Oversize, cell, digits, negative, TooLarge, Miscounted, Fault, Precedes, First, Accepted}
+use Rattle.formulas.specs.Tree.{Condition, text}
+use Rattle.formulas.specs.Faults.{next, Begins, Outside, TooDeep, Oversize, cell, digits, negative, TooLarge, Miscounted, Fault, Precedes, First}
 use Rattle.formulas.specs.declared.node.Shift.TheVariants.{Bare}
 use Rattle.formulas.specs.Reading.{EndsShift, Clear}
 use Rattle.formulas.proofs.Numerals.{numeral_next}

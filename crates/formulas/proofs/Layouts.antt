@@ -1,11 +1,9 @@
 -- How many nodes a tree takes, and stores written one part after another. Assumes nothing.
-use Rattle.std.proofs.Common.{◌≡◌, ℕ, suc, ◌+◌, ◌-◌, ◌<◌, ◌≤◌, List, [], ◌∷◌, ◌++◌, length, get_or, take, drop, set, pos, negsuc, sym, refl, ap, ◌∙◌, subst, ⊎_elim, append_assoc, append-nil, arith, length-append, take-append-drop}
-use Rattle.std.proofs.lemmas.List.{take_at, drop_at, drop-drop, take-take, take-append-le, length-take-le, set_split}
+use Rattle.std.proofs.Common.{◌≡◌, ℕ, suc, ◌+◌, ◌-◌, ◌<◌, ◌≤◌, List, [], ◌∷◌, ◌++◌, length, take, drop, set, sym, refl, ap, ◌∙◌, ⊎_elim, append_assoc, arith, length-append}
+use Rattle.std.proofs.lemmas.List.{take_at, drop_at, drop-drop, take-take, length-take-le, set_split}
 use Rattle.formulas.specs.declared.node.Node.{Node}
-use Rattle.formulas.specs.declared.node.Node.TheVariants.{Compare}
 use Rattle.formulas.specs.declared.node.Side.{Side}
-use Rattle.formulas.specs.declared.node.Side.TheVariants.{Number, Cell}
-use Rattle.formulas.specs.Tree.{Condition, compares, negates, all, any, Conditions, one, more, numeral, side_text, relation_text, text, list_text}
+use Rattle.formulas.specs.Tree.{Condition, compares, negates, all, any, Conditions, one, more, side_text, relation_text, text, list_text}
 use Rattle.formulas.specs.Layout.{size, list_size, layout, list_layout, stored}
 use Rattle.formulas.proofs.Unique.{side_first, relation_bytes, SideFirst}
 

@@ -1,5 +1,5 @@
 -- The level after some bytes, and that a condition leaves it as it was. Assumes nothing.
-use Rattle.std.proofs.Common.{◌≡◌, ℕ, suc, ◌+◌, ◌-◌, ◌<◌, ◌≤◌, max, Bool, cond, eqb, ◌≢◌, List, [], ◌∷◌, ◌++◌, length, take, drop, ℤ, pos, negsuc, sym, refl, ap, ◌∙◌, subst, arith, ne_eqb}
+use Rattle.std.proofs.Common.{◌≡◌, ℕ, suc, ◌+◌, ◌<◌, ◌≤◌, Bool, cond, eqb, List, [], ◌∷◌, ◌++◌, take, pos, negsuc, sym, refl, ap, ◌∙◌, arith, ne_eqb}
 use Rattle.formulas.specs.declared.node.Shift.{Shift}
 use Rattle.formulas.specs.declared.node.Shift.TheVariants.{Bare, Plus, Minus}
 use Rattle.formulas.specs.declared.node.Side.{Side}
@@ -7,7 +7,7 @@ use Rattle.formulas.specs.declared.node.Side.TheVariants.{Number, Cell}
 use Rattle.formulas.specs.declared.node.Relation.{Relation}
 use Rattle.formulas.specs.declared.node.Relation.TheVariants.{Equal, NotEqual, Less, LessEqual, Greater, GreaterEqual}
 use Rattle.formulas.specs.Tree.{Condition, compares, negates, all, any, Conditions, one, more, numeral, shift_text, side_text, relation_text, text, list_text, levels, list_levels}
-use Rattle.formulas.specs.Faults.{Digit, count, level}
+use Rattle.formulas.specs.Faults.{count, level}
 use Rattle.formulas.specs.Reading.{Spans, Deep}
 use Rattle.formulas.proofs.Numerals.{AllDigits, digits_numeral}
 use Rattle.formulas.proofs.Spans.{spans_take}

@@ -1,15 +1,15 @@
 -- Digits and cells in a side: what can come there, and which faults there are. Assumes nothing.
-use Rattle.std.proofs.Common.{◌≡◌, ℕ, suc, ◌+◌, ◌-◌, ◌<◌, ◌≤◌, ◌≢◌, ◌⊎◌, List, [], ◌∷◌, ◌++◌, length, take, drop, ℤ, pos, negsuc, sym, refl, ap, ◌∙◌, subst, inl, inr, ⊎_elim, append_assoc, append-nil, arith}
+use Rattle.std.proofs.Common.{◌≡◌, ℕ, suc, ◌+◌, ◌-◌, ◌<◌, ◌≤◌, ◌≢◌, List, [], ◌∷◌, ◌++◌, length, take, drop, pos, negsuc, sym, ap, ◌∙◌, subst, append_assoc, append-nil, arith}
 use Rattle.formulas.specs.declared.node.Shift.{Shift}
 use Rattle.formulas.specs.declared.node.Shift.TheVariants.{Bare, Plus, Minus}
 use Rattle.formulas.specs.declared.node.Side.{Side}
 use Rattle.formulas.specs.declared.node.Side.TheVariants.{Number, Cell}
 use Rattle.formulas.specs.Tree.{Condition, numeral, shift_text, side_text, text}
-use Rattle.formulas.specs.Faults.{next, Digit, NoDigitBefore, Begins, Outside, TooLarge, cell, digits, negative}
-use Rattle.formulas.specs.Reading.{Spans, AwaitsSide, AwaitsDigits, EndsShift, EndsSide}
+use Rattle.formulas.specs.Faults.{next, Digit, NoDigitBefore, Outside, TooLarge, cell, digits, negative}
+use Rattle.formulas.specs.Reading.{Spans, AwaitsSide, AwaitsDigits, EndsShift}
 use Rattle.formulas.proofs.Numerals.{numeral_zero, numeral_next, numeral_first, numeral_unique, zero_only}
 use Rattle.formulas.proofs.Unique.{uncons, shift_ends, ends_any}
-use Rattle.formulas.proofs.Spans.{spans_take, spans_byte, spans_join, after_word, word_next, next_end}
+use Rattle.formulas.proofs.Spans.{spans_take, spans_byte, spans_join, after_word, word_next}
 
 module _ {s : List ℕ} {at : ℕ} (a : AwaitsSide s at) where
   -- a number without a minus

@@ -1,8 +1,7 @@
 -- What can be wrong with a formula's text, and which fault is the first. Assumes nothing.
-use Rattle.std.specs.Prelude.{◌≡◌, ℕ, suc, ◌+◌, ◌-◌, ◌<◌, ◌≤◌, cond, ◌⊎◌, List, [], ◌∷◌, ◌++◌, length, take, drop, ◌==◌, ◌≢◌}
+use Rattle.std.specs.Prelude.{◌≡◌, ℕ, ◌+◌, ◌-◌, ◌<◌, ◌≤◌, cond, ◌⊎◌, List, [], ◌∷◌, ◌++◌, length, take, drop, ◌==◌, ◌≢◌}
 use Rattle.formulas.specs.declared.fault.Flaw.{Flaw}
 use Rattle.formulas.specs.declared.fault.Flaw.TheVariants.{Grammar, Level, Range, Cells}
-use Rattle.formulas.specs.declared.fault.FormulaFault.{FormulaFault}
 use Rattle.formulas.specs.Tree.{Condition, text, numeral, levels, Known, cells_of}
 
 -- the number of each fault

@@ -1,12 +1,12 @@
 -- The words of the readers' own contracts. Assumes nothing.
-use Rattle.std.specs.Prelude.{◌≡◌, ℕ, ◌+◌, ◌<◌, ◌≤◌, Bool, true, false, ◌≢◌, List, [], ◌∷◌, ◌++◌, length, take, drop}
+use Rattle.std.specs.Prelude.{◌≡◌, ℕ, ◌+◌, ◌<◌, ◌≤◌, Bool, true, ◌≢◌, List, [], ◌∷◌, ◌++◌, length, take, drop}
 use Rattle.formulas.specs.declared.node.Shift.{Shift}
 use Rattle.formulas.specs.declared.node.Shift.TheVariants.{Bare, Plus, Minus}
 use Rattle.formulas.specs.declared.node.Side.{Side}
 use Rattle.formulas.specs.declared.node.Side.TheVariants.{Number, Cell}
 use Rattle.formulas.specs.declared.node.Relation.{Relation}
 use Rattle.formulas.specs.declared.node.Relation.TheVariants.{Equal, NotEqual, Less, LessEqual, Greater, GreaterEqual}
-use Rattle.formulas.specs.Tree.{Condition, compares, negates, all, any, Conditions, one, more, text, list_text, side_text, numeral}
+use Rattle.formulas.specs.Tree.{Condition, compares, negates, all, any, Conditions, text, list_text, side_text, numeral}
 use Rattle.formulas.specs.Faults.{next, Digit, NoDigitBefore, count, TooDeep, TooLarge}
 
 -- w stands in s from one place up to another

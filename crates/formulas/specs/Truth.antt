@@ -1,5 +1,5 @@
 -- The truth of a formula at the cells' numbers. Assumes nothing.
-use Rattle.std.specs.Prelude.{ℕ, Bool, false, not, ◌&&◌, ◌||◌, List, ℤ, pos, negsuc, ◌+ℤ◌, ◌-ℤ◌, ◌==◌, int_le, int_lt, slice_index_or}
+use Rattle.std.specs.Prelude.{Bool, false, not, ◌&&◌, ◌||◌, List, ℤ, pos, negsuc, ◌+ℤ◌, ◌-ℤ◌, ◌==◌, int_le, int_lt, slice_index_or}
 use Rattle.formulas.specs.declared.node.Shift.{Shift}
 use Rattle.formulas.specs.declared.node.Shift.TheVariants.{Bare, Plus, Minus}
 use Rattle.formulas.specs.declared.node.Side.{Side}

@@ -1,19 +1,17 @@
 -- A formula that is read stands in the store, and each text is told for one reason only. Assumes nothing.
-use Rattle.std.proofs.Common.{◌≡◌, ℕ, ◌+◌, ◌-◌, ◌<◌, ◌≤◌, List, [], ◌∷◌, ◌++◌, length, take, drop, replicate, ℤ, IfOk, Ok, Err, Result, sym, refl, ap, ◌∙◌, subst, arith, length-append}
+use Rattle.std.proofs.Common.{◌≡◌, ℕ, ◌+◌, ◌-◌, ◌≤◌, List, length, take, drop, replicate, ℤ, IfOk, Ok, Err, Result, sym, refl, ap, ◌∙◌, subst, arith}
 use Rattle.std.proofs.lemmas.List.{take_at, length-take-le}
 use Rattle.formulas.specs.declared.node.Node.{Node}
-use Rattle.formulas.specs.declared.fault.Flaw.{Flaw}
 use Rattle.formulas.specs.declared.fault.FormulaFault.{FormulaFault}
-use Rattle.formulas.specs.Tree.{Condition, cells_of}
-use Rattle.formulas.specs.Faults.{First, Accepted}
-use Rattle.formulas.specs.Layout.{size, layout, Stands, Standing}
+use Rattle.formulas.specs.Tree.{cells_of}
+use Rattle.formulas.specs.Layout.{layout, Stands, Standing}
 use Rattle.formulas.proofs.Exact.{accepted_not_refused, accepted_unique}
-use Rattle.formulas.proofs.Layouts.{size_some, size_text}
+use Rattle.formulas.proofs.Layouts.{size_text}
 use Rattle.formulas.proofs.Standings.{laid_out}
 use Rattle.reader.specs.declared.formula.Formula.{Formula}
-use Rattle.reader.specs.Formula.{ReadFormula, Decided}
+use Rattle.reader.specs.Formula.{ReadFormula}
 use Rattle.reader.proofs.Wholes.{decided_refused}
-use Rattle.preview.specs.Preview.{Fit, Tells, unfit, long, faulty, read, Exactly, fault_line, permits}
+use Rattle.preview.specs.Preview.{Tells, unfit, long, faulty, read, Exactly, fault_line, permits}
 
 module _ {cells used : ℕ} {s : List ℕ} {before after : List Node} {f : Formula} (r : ReadFormula cells s before 0 after used f) where
   pub stands_there : Stands after f.root r.is

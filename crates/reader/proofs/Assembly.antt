@@ -1,22 +1,21 @@
 -- From the parts of a condition or of a list to the whole. Assumes nothing.
-use Rattle.std.proofs.Common.{◌≡◌, ℕ, zero, suc, ◌+◌, ◌-◌, ◌<◌, ◌≤◌, max, Bool, true, false, ◌≢◌, ◌⊎◌, List, [], ◌∷◌, ◌++◌, length, get_or, take, drop, set, sym, refl, ap, ◌∙◌, subst, inl, inr, ⊎_elim, append_assoc, arith, length-append}
+use Rattle.std.proofs.Common.{◌≡◌, ℕ, zero, suc, ◌+◌, ◌-◌, ◌<◌, ◌≤◌, Bool, true, false, ◌≢◌, List, [], ◌∷◌, ◌++◌, length, take, drop, set, sym, refl, ap, ◌∙◌, subst, ⊎_elim, append_assoc, arith, length-append}
 use Rattle.std.proofs.lemmas.List.{take-append-le}
 use Rattle.formulas.specs.declared.node.Node.{Node}
-use Rattle.formulas.specs.declared.node.Node.TheVariants.{Compare, Not, And, Or}
+use Rattle.formulas.specs.declared.node.Node.TheVariants.{Compare, Not}
 use Rattle.formulas.specs.declared.node.Side.{Side}
 use Rattle.formulas.specs.declared.node.Relation.{Relation}
-use Rattle.formulas.specs.declared.fault.Flaw.{Flaw}
 use Rattle.formulas.specs.declared.fault.Flaw.TheVariants.{Grammar, Level}
 use Rattle.formulas.specs.declared.fault.FormulaFault.{FormulaFault}
-use Rattle.formulas.specs.Tree.{Condition, compares, negates, all, any, Conditions, one, more, side_text, relation_text, text, list_text, not_word, and_word, or_word, KnownSide, levels, list_levels}
-use Rattle.formulas.specs.Faults.{next, First, Outside, count}
+use Rattle.formulas.specs.Tree.{Condition, compares, negates, all, any, one, more, side_text, relation_text, text, list_text, not_word, and_word, or_word, KnownSide}
+use Rattle.formulas.specs.Faults.{next, First, count}
 use Rattle.formulas.specs.Layout.{size, list_size, layout, list_layout, stored}
-use Rattle.formulas.specs.Reading.{Spans, Clear, Deep, Awaits, AwaitsList, Follows, closes, goes_on, Ends, EndsSide}
+use Rattle.formulas.specs.Reading.{Spans, Clear, Deep, Awaits, AwaitsList, Follows, closes, goes_on, EndsSide}
 use Rattle.formulas.proofs.Spans.{spans_byte, spans_join, spans_split, spans_take}
 use Rattle.formulas.proofs.Awaits.{await_not, await_all, await_any, list_next, word_outside, too_deep, after_condition}
 use Rattle.formulas.proofs.Firsts.{first_grammar, first_level}
 use Rattle.formulas.proofs.Clears.{Plain, clear-bytes, clear-condition}
-use Rattle.formulas.proofs.Layouts.{size_layout, size_list, size_some, list_some, stored_set, stored_more, stored_length}
+use Rattle.formulas.proofs.Layouts.{size_layout, size_list, stored_set, stored_more, stored_length}
 use Rattle.reader.specs.declared.conditions.Join.{Join}
 use Rattle.reader.specs.declared.conditions.Join.TheVariants.{All, Any}
 use Rattle.reader.specs.Read.{Misspelled, NotOpened, FirstOf, ReadOne, ReadList, joiner}

@@ -1,11 +1,10 @@
 -- Cells noted one by one. Assumes nothing.
-use Rattle.std.proofs.Common.{◌≡◌, ℕ, zero, suc, ◌+◌, ◌-◌, ◌<◌, ◌≤◌, min, Bool, true, false, cond, eqb, ◌≢◌, ◌⊎◌, List, [], ◌∷◌, ◌++◌, length, get_or, take, drop, set, replicate, sym, refl, ap, ◌∙◌, subst, inl, inr, ⊎_elim, append_assoc, append-nil, arith, length-append}
-use lib.ListN.{length-replicate}
+use Rattle.std.proofs.Common.{◌≡◌, ℕ, suc, ◌+◌, ◌-◌, ◌<◌, ◌≤◌, min, Bool, true, false, cond, ◌≢◌, List, [], ◌∷◌, ◌++◌, length, get_or, take, set, replicate, sym, refl, ap, ◌∙◌, subst, ⊎_elim, append_assoc, append-nil, arith, length-append}
 use Rattle.std.proofs.lemmas.List.{take_at, set-append_right, take_more}
-use Rattle.std.proofs.lemmas.Bool.{cases_lt, cond_both, cond-true, cond-false, both_ways}
+use Rattle.std.proofs.lemmas.Bool.{cases_lt, cond_both, cond-true, cond-false}
 use Rattle.formulas.specs.declared.node.Node.{Node}
-use Rattle.formulas.specs.declared.node.Node.TheVariants.{Free, Compare, Not, And, Or}
-use Rattle.formulas.specs.Tree.{Condition, compares, negates, all, any, Conditions, one, more, among, noted, mentions, list_mentions, cells_of}
+use Rattle.formulas.specs.declared.node.Node.TheVariants.{Not, And, Or}
+use Rattle.formulas.specs.Tree.{Condition, compares, negates, all, any, Conditions, one, more, among, noted, mentions, list_mentions}
 use Rattle.formulas.specs.Layout.{size, layout, list_layout}
 use Rattle.reader.specs.declared.seen.Seen.{Seen}
 use Rattle.reader.specs.Mentions.{node_cells, mentioned, Holds}

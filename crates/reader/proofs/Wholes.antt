@@ -1,16 +1,14 @@
 -- A whole formula, from the condition read. Assumes nothing.
-use Rattle.std.proofs.Common.{◌≡◌, ℕ, ◌+◌, ◌-◌, ◌<◌, ◌≤◌, true, false, ◌≢◌, ◌⊎◌, List, [], ◌∷◌, ◌++◌, length, take, drop, replicate, is_ok, Ok, Err, Result, sym, refl, ap, ◌∙◌, subst, inl, inr, ⊎_elim, append-nil, arith, MatchResult}
+use Rattle.std.proofs.Common.{◌≡◌, ℕ, ◌+◌, ◌-◌, ◌<◌, ◌≤◌, ◌≢◌, List, [], ◌++◌, length, take, drop, Ok, Err, sym, refl, ap, ◌∙◌, subst, inl, inr, ⊎_elim, append-nil, arith}
 use Rattle.std.proofs.lemmas.List.{take_at, drop_at, drop_all, length-take-le}
 use Rattle.std.proofs.lemmas.Bool.{cases_lt}
 use Rattle.formulas.specs.declared.node.Node.{Node}
-use Rattle.formulas.specs.declared.fault.Flaw.{Flaw}
 use Rattle.formulas.specs.declared.fault.Flaw.TheVariants.{Grammar, Cells}
 use Rattle.formulas.specs.declared.fault.FormulaFault.{FormulaFault}
-use Rattle.formulas.specs.Tree.{Condition, text, mentions, noted, cells_of}
-use Rattle.formulas.specs.Faults.{next, First, Accepted, Miscounted}
-use Rattle.formulas.specs.Layout.{size, layout, stored}
-use Rattle.formulas.specs.Reading.{Spans, Clear, Follows, ends, Ends}
-use Rattle.formulas.proofs.Spans.{next_end}
+use Rattle.formulas.specs.Tree.{text, noted, cells_of}
+use Rattle.formulas.specs.Faults.{next, First}
+use Rattle.formulas.specs.Layout.{layout, stored}
+use Rattle.formulas.specs.Reading.{Clear, Follows, ends}
 use Rattle.formulas.proofs.Awaits.{await_start, after_condition}
 use Rattle.formulas.proofs.Levels.{deep_start}
 use Rattle.formulas.proofs.Clears.{clear_start, clear-condition}

@@ -13,6 +13,9 @@ use formulas::node::Node;
 /// The nodes that suffice for the formulas of any sheet file.
 pub const NODES: usize = 32768;
 
+/// The most different cells that a formula names.
+const MOST: u8 = 4;
+
 /// A formula in the store: its root, and its cells in the order of their first appearance, with zeros after them.
 #[derive(Clone, Copy)]
 pub struct Formula {
@@ -81,7 +84,7 @@ fn whole(
             offset: 0,
         });
     }
-    if seen.count > 4 {
+    if seen.count > MOST {
         return Err(FormulaFault {
             flaw: Flaw::Cells,
             offset: 0,

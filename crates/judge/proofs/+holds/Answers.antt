@@ -1,8 +1,8 @@
-use Rattle.std.proofs.Common.{◌≡◌, true, false, not, ◌&&◌, ◌||◌, get_or, sym, refl, ap, ◌∙◌, ap₂, arith, w64}
+use Rattle.std.proofs.Common.{not, ◌&&◌, ◌||◌, sym, ap, ◌∙◌, ap₂, arith, w64}
 use Rattle.formulas.specs.declared.node.Node.TheVariants.{Free, Compare, Not, And, Or}
 use Rattle.std.proofs.lemmas.Int.{to_z-of_z}
 use Rattle.formulas.specs.Truth.{truth, related}
-use Rattle.formulas.proofs.Standings.{View, seen, child_standing}
+use Rattle.formulas.proofs.Standings.{seen, child_standing}
 use Rattle.judge.proofs.+holds.Goals as goal
 
 pub unreachable-requires : goal.unreachable-requires
@@ -18,8 +18,8 @@ holds-requires-in-And t c =
     let v = seen c.requires.is c.args.nodes.now c.args.at c.args.numbers.now (And c.in-And.first c.in-And.rest) c.in-And.is c.requires.stands in
     (omega (arith, v.0.less, c.decreases), child_standing c.requires.within v.0)
 
-pub holds-requires-then-init : goal.holds-requires-then-init
-holds-requires-then-init t c =
+pub holds-requires-then-holds : goal.holds-requires-then-holds
+holds-requires-then-holds t c =
     let v = seen c.requires.is c.args.nodes.now c.args.at c.args.numbers.now (And c.in-And.first c.in-And.rest) c.in-And.is c.requires.stands in
     (omega (arith, v.1.less, c.decreases), child_standing c.requires.within v.1)
 
@@ -28,17 +28,17 @@ holds-requires-in-Or t c =
     let v = seen c.requires.is c.args.nodes.now c.args.at c.args.numbers.now (Or c.in-Or.first c.in-Or.rest) c.in-Or.is c.requires.stands in
     (omega (arith, v.0.less, c.decreases), child_standing c.requires.within v.0)
 
-pub holds-requires-else-init-2 : goal.holds-requires-else-init-2
-holds-requires-else-init-2 t c =
+pub holds-requires-else-holds-2 : goal.holds-requires-else-holds-2
+holds-requires-else-holds-2 t c =
     let v = seen c.requires.is c.args.nodes.now c.args.at c.args.numbers.now (Or c.in-Or.first c.in-Or.rest) c.in-Or.is c.requires.stands in
     (omega (arith, v.1.less, c.decreases), child_standing c.requires.within v.1)
 
 pub returns-in-Compare : goal.returns-in-Compare
 returns-in-Compare t c = λ d h.
     let v = seen d c.args.nodes.now c.args.at c.args.numbers.now (Compare c.in-Compare.left c.in-Compare.by c.in-Compare.right) c.in-Compare.is h in
-    let a = to_z-of_z w64 c.worth-of.result (record { sfits = c.worth-of.type-inv }) ∙ c.worth-of.ensures in
-    let b = to_z-of_z w64 c.worth-of-in-Compare.result (record { sfits = c.worth-of-in-Compare.type-inv }) ∙ c.worth-of-in-Compare.ensures in
-    c.is-related.ensures ∙ ap₂ (related c.in-Compare.by) a b ∙ sym v
+    let a = to_z-of_z w64 c.worth_of.result (record { sfits = c.worth_of.type_inv }) ∙ c.worth_of.ensures in
+    let b = to_z-of_z w64 c.worth_of-in-Compare.result (record { sfits = c.worth_of-in-Compare.type_inv }) ∙ c.worth_of-in-Compare.ensures in
+    c.is_related.ensures ∙ ap₂ (related c.in-Compare.by) a b ∙ sym v
 
 pub returns-in-Not : goal.returns-in-Not
 returns-in-Not t c = λ d h.

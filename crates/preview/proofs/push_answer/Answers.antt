@@ -1,24 +1,24 @@
-use Rattle.std.proofs.Common.{◌≡◌, List, ◌++◌, length, replicate, pos, vec_items, sym, refl, ap, ◌∙◌, arith}
+use Rattle.std.proofs.Common.{◌++◌, replicate, pos, vec_items, ap, ◌∙◌}
 use Rattle.text.proofs.Appends.{made_so}
 use Rattle.preview.specs.Preview.{faulty, read, fault_line, permits, told, permitted, rows, list_of}
 use Rattle.preview.proofs.Answering.{stands_there, standing_there, cells_there}
 use Rattle.preview.proofs.push_answer.Goals as goal
 
-pub push-permits-requires : goal.push-permits-requires
-push-permits-requires c = standing_there c.in-Ok.ensures.read c.requires.short (c.read.auto.nodes ∙ c.requires.store)
+pub push_permits-requires : goal.push_permits-requires
+push_permits-requires c = standing_there c.in-Ok.ensures.read c.requires.short (c.read.auto.nodes ∙ c.requires.store)
 
 pub returns-in-Err : goal.returns-in-Err
 returns-in-Err c =
-    made_so c.push-fault.result
-    (λ e. (fault_line c.in-Err.fault.flaw c.in-Err.fault.offset, e, faulty c.requires.fit c.requires.short c.in-Err.fault.flaw c.in-Err.fault.offset c.in-Err.ensures.read.0)) c.push-fault.ensures
+    made_so c.push_fault.result
+    (λ e. (fault_line c.in-Err.fault.flaw c.in-Err.fault.offset, e, faulty c.requires.fit c.requires.short c.in-Err.fault.flaw c.in-Err.fault.offset c.in-Err.ensures.read.0)) c.push_fault.ensures
 
 pub returns-in-Ok : goal.returns-in-Ok
 returns-in-Ok c =
-    made_so c.push-permits.result
+    made_so c.push_permits.result
     (λ g.
     let r = c.in-Ok.ensures.read in
     let lists = list_of c.args.lengths.now c.args.numbers.now in (
       permits c.args.lengths.now c.args.numbers.now r.is,
       g r.is (stands_there r) ∙ ap (λ l. vec_items c.args.out.now ++ told l (permitted r.is (rows lists l (replicate 64 (pos 0))))) (cells_there r c.from-width.result c.from-width.ensures),
       read c.requires.fit c.requires.short r.is r.accepted,
-    )) c.push-permits.ensures
+    )) c.push_permits.ensures

@@ -7,4 +7,4 @@ pub loop-word-init : goal.loop-word-init
 loop-word-init c = subst Listed (sym c.new-list.ensures.items) none
 
 pub loop-word-preserved : goal.loop-word-preserved
-loop-word-preserved c = listed_more c.loop-word.invariant c.deref.ensures.value (c.if-not-may-follow.ensures.0 refl) c.in-ok-push.ensures.items
+loop-word-preserved c = listed_more c.loop-word.invariant c.deref.ensures.value (c.if-not-may_follow.ensures.0 refl) c.in_ok-push.ensures.items

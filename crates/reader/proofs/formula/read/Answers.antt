@@ -1,4 +1,4 @@
-use Rattle.std.proofs.Common.{◌≡◌, ◌-◌, ◌≤◌, ◌++◌, length, take, replicate, sym, refl, ap, ◌∙◌, arith}
+use Rattle.std.proofs.Common.{◌-◌, ◌++◌, length, take, replicate, refl, ap, ◌∙◌, arith}
 use Rattle.formulas.specs.declared.node.Node.TheVariants.{Free}
 use Rattle.reader.proofs.Wholes.{decided_read, decided_refused}
 use Rattle.reader.proofs.formula.read.Goals as goal

@@ -1,6 +1,5 @@
-use Rattle.std.proofs.Common.{◌≡◌, ◌+◌, ◌<◌, ◌≤◌, length, drop, sym, refl, ap, ◌∙◌, subst, arith}
+use Rattle.std.proofs.Common.{sym, ◌∙◌, arith}
 use Rattle.std.proofs.lemmas.Bool.{false≢true}
-use Rattle.formulas.specs.Faults.{next}
 use Rattle.formulas.proofs.Spans.{spans_byte}
 use Rattle.reader.proofs.Refusals.{byte_two}
 use Rattle.reader.proofs.sides.relation.Goals as goal
