@@ -1,5 +1,5 @@
 -- One call after some calls. Assumes nothing.
-use Rattle.std.proofs.Common.{◌≡◌, ℕ, zero, suc, ◌+◌, ◌<◌, ◌≤◌, Bool, true, false, cond, eqb, ltb, ◌≢◌, ◌⊎◌, List, [], ◌∷◌, map, length, get_or, take, set, Some, None, Ok, Err, vec_items, vec_len, filter, Option, Result, sym, refl, ap, ◌∙◌, subst, ap₂, subst₂, inl, inr, arith, length-set}
+use Rattle.std.proofs.Common.{◌≡◌, ℕ, zero, suc, ◌+◌, ◌<◌, Bool, false, cond, eqb, ltb, ◌≢◌, List, ◌∷◌, map, length, get_or, set, Some, None, Ok, Err, vec_items, vec_len, filter, Option, Result, sym, refl, ap, ◌∙◌, subst, ap₂, subst₂, inl, inr, arith, length-set}
 use Rattle.std.specs.List.{range_with_len}
 use Rattle.std.proofs.lemmas.List.{get_or-set_same, get_or-set_other}
 use Rattle.std.proofs.lemmas.Bool.{cases_eq, eq-eqb, ne_eqb, cond-true, cond-false, lt-ltb}
@@ -16,17 +16,17 @@ use Rattle.calls.specs.declared.refusal.Refusal.{Refusal}
 use Rattle.calls.specs.declared.answer.Answer.{Answer}
 use Rattle.calls.specs.declared.step.Step.{Step}
 use Rattle.calls.specs.Answers.{Said, said, plain, returned, to_change, to_fit}
-use Rattle.calls.specs.Sheet.{Sheet, sheet, Sizes, cells, places, Opens, Judged, Judged.shut, Judged.pins, Judged.pins_no_cell, Judged.pins_no_place, Judged.frees, Judged.frees_no_cell, Judged.switches, Judged.switches_no_rule, Judged.fits, Judged.fits_short}
-use Rattle.calls.specs.History.{Did, accepted, pinned, switched, standing, is_on, Valid, set_where, on_after}
+use Rattle.calls.specs.Sheet.{Sheet, Sizes, cells, Opens, Judged, Judged.shut, Judged.pins, Judged.pins_no_cell, Judged.pins_no_place, Judged.frees, Judged.frees_no_cell, Judged.switches, Judged.switches_no_rule, Judged.fits, Judged.fits_short}
+use Rattle.calls.specs.History.{Did, accepted, pinned, switched, standing, is_on, Valid, on_after}
 use Rattle.calls.specs.Plays.{sizes, did, Untouched, Makes, Makes.refused, Makes.changed, Makes.fitted}
 use Rattle.calls.specs.Promise.{Keeps}
-use Rattle.calls.specs.Runs.{start_of, starts, start_after, FitRuns, StepDone}
+use Rattle.calls.specs.Runs.{start_of, start_after, FitRuns, StepDone}
 use Rattle.calls.proofs.Fillings.{few_cells, few_rules}
 use Rattle.calls.proofs.Promising.{done_opens, stands_same, stands_changed, valid_next}
 use Rattle.opening.specs.Pins.{held}
 use Rattle.session.specs.declared.table.Table.{Table}
 use Rattle.session.specs.declared.session.Session.{Session}
-use Rattle.session.specs.Calls.{sheet_of, lasting_of, with_table, with_lasting, changed as table-changed, Changed, table_start, table_on, Solved, sizes_of, FitCalled}
+use Rattle.session.specs.Calls.{sheet_of, lasting_of, with_lasting, changed as table-changed, Changed, table_start, table_on, sizes_of, FitCalled}
 use Rattle.play.specs.Held.{Holds}
 
 -- ---- rules that are on, by the number of an answer

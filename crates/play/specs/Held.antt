@@ -1,5 +1,5 @@
 -- What a session's table holds after some calls. Assumes nothing.
-use Rattle.std.specs.Prelude.{◌≡◌, ℕ, ◌<◌, Bool, true, false, List, [], ◌∷◌, length, Some, None, Option, slice_index_or}
+use Rattle.std.specs.Prelude.{◌≡◌, ℕ, ◌<◌, false, List, [], ◌∷◌, length, None, slice_index_or}
 use Rattle.calls.specs.declared.step.Step.{Step}
 use Rattle.calls.specs.History.{Did, standing, is_on, Valid}
 use Rattle.calls.specs.Plays.{did}

@@ -1,13 +1,11 @@
 -- A sheet read field by field. Assumes nothing.
-use Rattle.std.proofs.Common.{◌≡◌, ℕ, ◌+◌, ◌*◌, ◌/◌, ◌%◌, ◌<◌, ◌≤◌, ◌≢◌, ◌⊎◌, List, [], ◌∷◌, ◌++◌, map, length, ℤ, sym, refl, ap, ◌∙◌, subst, inl, inr, ⊎_elim, append_assoc, append-nil, arith, length-append}
+use Rattle.std.proofs.Common.{◌≡◌, ℕ, ◌+◌, ◌<◌, ◌≢◌, List, [], ◌∷◌, ◌++◌, map, length, ℤ, sym, refl, ap, ◌∙◌, ⊎_elim, append_assoc, append-nil, arith, length-append}
 use mathlib.Core.List.{map-append}
 use Rattle.std.specs.List.{flat_map}
-use Rattle.formulas.specs.Tree.{Condition, text}
-use Rattle.formulas.proofs.Exact.{accepted_not_refused}
-use Rattle.sheets.specs.declared.fault.LoadFault.{LoadFault}
-use Rattle.sheets.specs.Sheet.{Sheet, RowsField, Field, field_bytes, cell_field, rows_field, formula_field, fields_of, bytes_of, list_bytes, rows_bytes, GoodList, GoodRows, GoodFormula, Each, Good, with_list, with_rows, with_formula}
-use Rattle.sheets.specs.Reading.{Fits, cell, rows, formula, end, Full, Wrong, no_end, bad_tag, long_end, after_end, cut_head, cut_content, too_many, bad_list, bad_rows, bad_formula}
-use Rattle.sheets.proofs.Fields.{same_front, byte, Short, joined_append}
+use Rattle.formulas.specs.Tree.{Condition}
+use Rattle.sheets.specs.Sheet.{Sheet, RowsField, Field, field_bytes, cell_field, rows_field, formula_field, fields_of, bytes_of, GoodList, GoodRows, GoodFormula, Each, Good, with_list, with_rows, with_formula}
+use Rattle.sheets.specs.Reading.{Fits, cell, rows, formula, Full}
+use Rattle.sheets.proofs.Fields.{joined_append}
 
 -- one more good field
 pub data Adds (s : Sheet) : Field → Sheet → Type 0 where

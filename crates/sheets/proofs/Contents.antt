@@ -1,10 +1,10 @@
 -- Contents determine lists, rows rules and formulas. Assumes nothing.
-use Rattle.std.proofs.Common.{◌≡◌, ℕ, zero, suc, ◌+◌, ◌*◌, ◌/◌, ◌%◌, ◌^◌, ◌<◌, ◌≤◌, List, [], ◌∷◌, ◌++◌, length, get_or, ℤ, pos, negsuc, nat_abs, sym, refl, ap, ◌∙◌, subst, arith, w32, SFits, to_z, of_z}
+use Rattle.std.proofs.Common.{◌≡◌, ℕ, suc, ◌<◌, ◌≤◌, List, [], ◌∷◌, ◌++◌, length, get_or, ℤ, pos, negsuc, nat_abs, sym, refl, ap, ◌∙◌, arith, w32, SFits, to_z, of_z}
 use Rattle.std.specs.List.{flat_map}
 use Rattle.std.proofs.lemmas.Int.{to_z-of_z}
 use Rattle.rows.specs.declared.rule.Kind.{Kind}
 use Rattle.rows.specs.declared.rule.Kind.TheVariants.{Permitted, Forbidden}
-use Rattle.sheets.specs.Sheet.{RowsField, four_bytes, list_bytes, kind_byte, rows_bytes, GoodList, GoodRow, GoodRows}
+use Rattle.sheets.specs.Sheet.{RowsField, four_bytes, list_bytes, kind_byte, rows_bytes, GoodRows}
 use Rattle.sheets.proofs.Fields.{same_front, byte}
 
 -- a number of at most a million fits 32 bits

@@ -1,11 +1,11 @@
 -- A file is read as one sheet, or refused with one fault, and not both. Assumes nothing.
-use Rattle.std.proofs.Common.{◌≡◌, ℕ, ◌+◌, ◌<◌, ◌≤◌, ◌≢◌, ◌⊎◌, List, [], ◌∷◌, ◌++◌, map, length, ℤ, sym, refl, ap, ◌∙◌, subst, inl, inr, ⊎_elim, append_assoc, append-nil, arith, length-append}
+use Rattle.std.proofs.Common.{◌≡◌, ℕ, ◌+◌, ◌≤◌, List, [], ◌∷◌, ◌++◌, map, length, ℤ, sym, refl, ap, ◌∙◌, subst, ⊎_elim, append_assoc, append-nil, arith, length-append}
 use Rattle.std.specs.List.{flat_map}
-use Rattle.formulas.specs.Tree.{Condition, text}
+use Rattle.formulas.specs.Tree.{Condition}
 use Rattle.formulas.proofs.Firsts.{text_unique}
 use Rattle.sheets.specs.declared.fault.LoadFault.{LoadFault}
-use Rattle.sheets.specs.Sheet.{Sheet, RowsField, Field, field_bytes, cell_field, rows_field, formula_field, fields_of, bytes_of, file_of, GoodList, GoodRows, GoodFormula, Each, Good, empty, with_list, with_rows, with_formula}
-use Rattle.sheets.specs.Reading.{Wrong, ReadAs, RefusedWith}
+use Rattle.sheets.specs.Sheet.{Sheet, RowsField, Field, field_bytes, cell_field, rows_field, formula_field, fields_of, bytes_of, GoodList, GoodRows, GoodFormula, Each, Good, empty, with_list, with_rows, with_formula}
+use Rattle.sheets.specs.Reading.{ReadAs, RefusedWith}
 use Rattle.sheets.proofs.Fields.{byte, fields_split}
 use Rattle.sheets.proofs.Adds.{Adds, adds_list, adds_rows, adds_formula, adds_not_end}
 use Rattle.sheets.proofs.Contents.{lists_unique, rows_unique}

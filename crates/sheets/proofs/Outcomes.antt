@@ -1,7 +1,7 @@
 -- What comes next decides the fault. Assumes nothing.
 use Rattle.std.proofs.Common.{◌≡◌, ℕ, ◌+◌, ◌*◌, ◌<◌, ◌≤◌, Bool, true, false, cond, ◌&&◌, ◌||◌, eqb, ltb, ◌≢◌, ◌⊎◌, List, [], ◌∷◌, ◌++◌, length, take, sym, refl, ap, ◌∙◌, subst, inl, inr, ⊎_elim, arith, length-append}
 use Rattle.std.proofs.lemmas.List.{take_at}
-use Rattle.std.proofs.lemmas.Bool.{cond-true, cond-false, eq-eqb, ne_eqb, eqb-true, lt-ltb, le-ltb, cases_Bool, and_parts, and_from, or_cases, or_left, or_right, both_ways}
+use Rattle.std.proofs.lemmas.Bool.{cond-true, cond-false, eq-eqb, ne_eqb, eqb-true, lt-ltb, le-ltb, cases_Bool, and_parts, and_from, or_cases, or_left, both_ways}
 use Rattle.formulas.specs.declared.fault.Flaw.{Flaw}
 use Rattle.formulas.specs.Faults.{First}
 use Rattle.formulas.proofs.Firsts.{first_unique}
@@ -9,7 +9,6 @@ use Rattle.sheets.specs.declared.fault.RuleFault.TheVariants.{List as ListFault,
 use Rattle.sheets.specs.declared.fault.LoadFault.{LoadFault}
 use Rattle.sheets.specs.declared.fault.LoadFault.TheVariants.{Cut, Tag, Many, Rule}
 use Rattle.sheets.specs.Sheet.{Sheet, RowsField}
-use Rattle.formulas.specs.Tree.{Condition}
 use Rattle.sheets.specs.Reading.{Fits, cell, rows, formula, end, Full, Wrong, no_end, bad_tag, long_end, after_end, cut_head, cut_content, too_many, bad_list, bad_rows, bad_formula, RefusedWith}
 use Rattle.sheets.proofs.Wrongs.{good_not_wrong}
 use Rattle.sheets.proofs.Exact.{Compared, compared, same, first-longer, second-longer}

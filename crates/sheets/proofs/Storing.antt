@@ -1,12 +1,11 @@
 -- What the stores hold after one more field. Assumes nothing.
-use Rattle.std.proofs.Common.{◌≡◌, ℕ, zero, suc, ◌+◌, ◌-◌, ◌*◌, ◌<◌, ◌≤◌, List, [], ◌∷◌, ◌++◌, map, length, replicate, ℤ, pos, sym, refl, ap, ◌∙◌, append_assoc, append-nil, add_assoc, zero-add, arith, length-append}
-use lib.ListN.{length-map}
+use Rattle.std.proofs.Common.{◌≡◌, ℕ, suc, ◌+◌, ◌*◌, ◌≤◌, List, [], ◌∷◌, ◌++◌, map, length, ℤ, pos, sym, refl, ap, ◌∙◌, append_assoc, append-nil, arith, length-append}
 use Rattle.std.specs.List.{flat_map}
-use Rattle.std.proofs.lemmas.List.{flat_map_more, map_push}
-use Rattle.formulas.specs.Tree.{Condition, text}
+use Rattle.std.proofs.lemmas.List.{flat_map_more}
+use Rattle.formulas.specs.Tree.{Condition}
 use Rattle.formulas.specs.Layout.{size, layout}
 use Rattle.formulas.proofs.Layouts.{size_layout, size_text}
-use Rattle.sheets.specs.Sheet.{Sheet, RowsField, Field, field_bytes, cell_field, rows_field, formula_field, fields_of, bytes_of, GoodList, Each, Good}
+use Rattle.sheets.specs.Sheet.{Sheet, RowsField, field_bytes, cell_field, rows_field, formula_field, bytes_of, GoodList, Each}
 use Rattle.sheets.specs.Stored.{filled, places_of, stored_rule_of, rules_of, formula_of, formulas_of, nodes_of}
 use Rattle.sheets.proofs.Fields.{joined_append}
 use Rattle.sheets.proofs.Filled.{length_filled}

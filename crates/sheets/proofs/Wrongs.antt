@@ -1,7 +1,7 @@
 -- A good field is not refused. Assumes nothing.
-use Rattle.std.proofs.Common.{◌≡◌, ℕ, ◌+◌, ◌*◌, ◌/◌, ◌%◌, ◌<◌, ◌≤◌, ◌≢◌, ◌⊎◌, List, [], ◌∷◌, ◌++◌, length, ℤ, sym, refl, ap, ◌∙◌, subst, inl, inr, ⊎_elim, arith, length-append}
+use Rattle.std.proofs.Common.{◌≡◌, ℕ, ◌+◌, ◌*◌, ◌/◌, ◌%◌, ◌≤◌, List, [], ◌∷◌, ◌++◌, length, ℤ, sym, refl, ap, ◌∙◌, subst, arith, length-append}
 use Rattle.formulas.specs.declared.fault.Flaw.{Flaw}
-use Rattle.formulas.specs.Tree.{Condition, text}
+use Rattle.formulas.specs.Tree.{text}
 use Rattle.formulas.specs.Faults.{First}
 use Rattle.formulas.proofs.Exact.{accepted_not_refused}
 use Rattle.sheets.specs.declared.fault.LoadFault.{LoadFault}

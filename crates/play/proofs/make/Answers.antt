@@ -1,7 +1,7 @@
-use Rattle.std.proofs.Common.{◌≡◌, ℕ, List, vec_items, vec_len, sym, refl, ap, ◌∙◌, subst, ap₂, arith, Bor}
+use Rattle.std.proofs.Common.{◌≡◌, ℕ, List, vec_items, sym, ap, ◌∙◌, subst, ap₂, arith, Bor}
 use Rattle.std.proofs.lemmas.List.{with_items_is}
 use Rattle.network.specs.Book.{BookMeaning}
-use Rattle.calls.specs.declared.call.Call.TheVariants.{Pin, Free, Switch, Fit}
+use Rattle.calls.specs.declared.call.Call.TheVariants.{Pin, Free, Switch}
 use Rattle.calls.specs.declared.answer.Answer.{Answer}
 use Rattle.calls.specs.declared.step.Step.{Step}
 use Rattle.calls.specs.Answers.{to_change, to_fit}
@@ -57,16 +57,16 @@ returns g c =
                 (untouched b m _ w.step-is) (w.step2-is ∙ w.of_change-step-in-Switch.ensures) q;
           }
       | in-Fit w ↦
-          let lw = w.deref-mut.ensures.len in
-          let ll = w.deref-mut-in-Fit.ensures.len in
-          let lf = w.deref-mut-in-Fit-2.ensures.len in
-          let q = subst (λ (x : Session g.row.B.Denot g.row.C.Denot). FitCalled meaning k s w.deref-mut.result.now w.deref-mut-in-Fit.result.now w.deref-mut-in-Fit-2.result.now (to_fit w.fit.result) x
+          let lw = w.deref_mut.ensures.len in
+          let ll = w.deref_mut-in-Fit.ensures.len in
+          let lf = w.deref_mut-in-Fit-2.ensures.len in
+          let q = subst (λ (x : Session g.row.B.Denot g.row.C.Denot). FitCalled meaning k s w.deref_mut.result.now w.deref_mut-in-Fit.result.now w.deref_mut-in-Fit-2.result.now (to_fit w.fit.result) x
           w.fit.new.work w.fit.new.log w.fit.new.filling) (sym w.session-is) w.fit.ensures in
           record {
             sheet = same_sheet meaning s t (fit_kept meaning k s t q);
             book = (fit_kept meaning k s t q).1;
             makes = λ h a. made_fit meaning k s t h b _ w.fit.result w.in-Fit.is a (ap (λ (x : Step). x.call) w.step-is) (w.step2-is ∙ w.of_fit-step.ensures)
-                lw ll lf w.deref-mut.ensures.value w.deref-mut-in-Fit.ensures.value w.deref-mut-in-Fit-2.ensures.value
+                lw ll lf w.deref_mut.ensures.value w.deref_mut-in-Fit.ensures.value w.deref_mut-in-Fit-2.ensures.value
                 (ap (λ (x : Step). vec_items x.buffers.work) w.step-is ∙ with_items_is b.buffers.work w.fit.new.work (w.fit.auto.work ∙ lw))
                 (ap (λ (x : Step). vec_items x.buffers.log) w.step-is ∙ with_items_is b.buffers.log w.fit.new.log (w.fit.auto.log ∙ ll))
                 (ap (λ (x : Step). vec_items x.buffers.filling) w.step-is ∙ with_items_is b.buffers.filling w.fit.new.filling (w.fit.auto.filling ∙ lf))

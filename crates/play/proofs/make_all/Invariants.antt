@@ -1,5 +1,4 @@
-use Rattle.std.proofs.Common.{◌≡◌, List, [], ◌∷◌, ◌++◌, take, drop}
-use Rattle.calls.specs.History.{Did}
+use Rattle.std.proofs.Common.{◌≡◌, [], take, drop}
 use Rattle.calls.specs.Runs.{StepDone}
 use Rattle.session.specs.Calls.{sheet_of, lasting_of}
 use Rattle.play.specs.Held.{Holds, latest}

@@ -1,4 +1,4 @@
-use Rattle.std.proofs.Common.{◌≡◌, ℕ, List, [], replicate, sym, refl, ap, ◌∙◌, subst, ap₂, subst₂}
+use Rattle.std.proofs.Common.{◌≡◌, ℕ, List, [], ◌∙◌, subst, ap₂, subst₂}
 use Rattle.clash.specs.Running.{Lasting, lasting}
 use Rattle.calls.specs.Sheet.{Sheet, sheet}
 use Rattle.calls.specs.Plays.{Plays}
