@@ -70,21 +70,21 @@ mod tests {
     #[test]
     fn never_true(rt: HostRuntime) -> Result<(), Fail> {
         let out = on_three(rt.alloc(), b"C0<>C0")?;
-        assert!(rt; out.as_slice() == b"C0\n0 rows\n");
+        assert!(rt; out.as_slice() == b"C0\n0 rows\n".as_slice());
         Ok(())
     }
 
     #[test]
     fn no_cell(rt: HostRuntime) -> Result<(), Fail> {
         let out = on_three(rt.alloc(), b"1=1")?;
-        assert!(rt; out.as_slice() == b"FAULT 9 0\n");
+        assert!(rt; out.as_slice() == b"FAULT 9 0\n".as_slice());
         Ok(())
     }
 
     #[test]
     fn leading_zero(rt: HostRuntime) -> Result<(), Fail> {
         let out = on_three(rt.alloc(), b"C0=07")?;
-        assert!(rt; out.as_slice() == b"FAULT 6 4\n");
+        assert!(rt; out.as_slice() == b"FAULT 6 4\n".as_slice());
         Ok(())
     }
 }

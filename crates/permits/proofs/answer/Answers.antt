@@ -1,4 +1,4 @@
-use Rattle.std.proofs.Common.{◌≡◌, length, IfSome, vec_items, ap, subst, arith}
+use Rattle.std.proofs.Common.{length, IfSome, vec_items, ap, subst, arith}
 use Rattle.permits.specs.Lists.{IsList}
 use Rattle.permits.proofs.Listing.{listed_few}
 use Rattle.permits.proofs.answer.Goals as goal

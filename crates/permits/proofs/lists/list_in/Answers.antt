@@ -1,4 +1,4 @@
-use Rattle.std.proofs.Common.{◌≡◌, sym, refl, subst}
+use Rattle.std.proofs.Common.{sym, refl, subst}
 use Rattle.permits.specs.Lists.{Listed, none}
 use Rattle.permits.proofs.Listing.{listed_more}
 use Rattle.permits.proofs.lists.list_in.Goals as goal

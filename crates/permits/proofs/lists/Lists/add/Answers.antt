@@ -1,4 +1,4 @@
-use Rattle.std.proofs.Common.{◌≡◌, ◌+◌, ◌-◌, length, vec_items, vec_len, sym, refl, ap, ◌∙◌}
+use Rattle.std.proofs.Common.{◌+◌, ◌-◌, length, vec_items, vec_len, ap}
 use Rattle.permits.proofs.Listing.{adds}
 use Rattle.permits.proofs.lists.Lists.add.Goals as goal
 
