@@ -2,7 +2,7 @@ use Rattle.std.proofs.Common.{◌≡◌, ◌/◌, length, subst, ⊎_elim, arith
 use Rattle.std.proofs.lemmas.Bool.Decides.{not_from_Decides}
 use Rattle.contents.proofs.Lists.{SoFar, by_bits, one_more, all_read, not_long, not_small, not_new}
 use Rattle.contents.proofs.list.read_list.Goals as goal
-use Rattle.contents.proofs.list.read_list.Goals.{then-not-is-small-via-then-not-is-small, then-not-is-small-via-else-not-is-small+then-not-is-new}
+use Rattle.contents.proofs.list.read_list.Goals.{then-not-is_small-via-then-not-is_small, then-not-is_small-via-else-not-is_small+then-not-is_new}
 
 pub returns-then-content-ne0 : goal.returns-then-content-ne0
 returns-then-content-ne0 c =
@@ -15,10 +15,10 @@ returns-then-not-is_small c =
     let f : SFits w32 z = search rules in
     let b = by_bits z _ f c.number_at-number.ensures in
     elim c.then-not-is_small.branch [
-      | then-not-is-small-via-then-not-is-small w ↦
+      | then-not-is_small-via-then-not-is_small w ↦
           not_small c.args.content.now c.args.tag c.loop-k.k (to_z w32 (of_z w32 z)) b.0 (omega arith) b.1
           (not_from_Decides c.is_small.result c.is_small.ensures w.if-not-is_small.true)
-      | then-not-is-small-via-else-not-is-small+then-not-is-new w ↦
+      | then-not-is_small-via-else-not-is_small+then-not-is_new w ↦
           not_new c.args.content.now c.args.numbers.now c.loop-k.numbers c.args.tag c.loop-k.k (to_z w32 (of_z w32 z)) c.loop-k.invariant b.0 (omega arith) b.1
           (not_from_Decides w.is_new.result w.is_new.ensures w.if-not-is_new.true)
     ]

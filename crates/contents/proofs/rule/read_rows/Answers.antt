@@ -2,7 +2,7 @@ use Rattle.std.proofs.Common.{◌≡◌, ℕ, ◌*◌, ◌/◌, List, ◌++◌, 
 use Rattle.std.proofs.lemmas.List.{length-take-le}
 use Rattle.contents.proofs.Rows.{no_head, head_width, part_of_row, bad_row, all_rows}
 use Rattle.contents.proofs.rule.read_rows.Goals as goal
-use Rattle.contents.proofs.rule.read_rows.Goals.{then-rest-width-ne0-via-then-rest-width-ne0, then-rest-width-ne0-via-else-rest-width-ne0+then-not-are-rows}
+use Rattle.contents.proofs.rule.read_rows.Goals.{then-rest-width-ne0-via-then-rest-width-ne0, then-rest-width-ne0-via-else-rest-width-ne0+then-not-are_rows}
 
 pub returns-in_default : goal.returns-in_default
 returns-in_default c = no_head c.args.content.now c.args.lengths.now c.args.tag c.in_default.ensures
@@ -16,7 +16,7 @@ returns-then-rest-width-ne0 c =
     let rest = c.in-Some.parts.rest.now in
     elim c.then-rest-width-ne0.branch [
       | then-rest-width-ne0-via-then-rest-width-ne0 w ↦ part_of_row content lengths (length lengths) c.args.tag kind cells rest c.in-Some.ensures w.if-rest-width-ne0.true
-      | then-rest-width-ne0-via-else-rest-width-ne0+then-not-are-rows w ↦
+      | then-rest-width-ne0-via-else-rest-width-ne0+then-not-are_rows w ↦
           bad_row content lengths (length lengths) c.args.tag kind cells rest c.in-Some.ensures w.are_rows.result w.are_rows.ensures w.if-not-are_rows.true
     ]
 

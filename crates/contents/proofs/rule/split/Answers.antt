@@ -5,7 +5,7 @@ use Rattle.sheets.specs.Stored.{filled}
 use Rattle.contents.specs.Parts.{Known}
 use Rattle.contents.proofs.Rows.{headed, head_width, head_cells, stored_good}
 use Rattle.contents.proofs.rule.split.Goals as goal
-use Rattle.contents.proofs.rule.split.Goals.{then-width-gt4-via-then-width-gt4, then-width-gt4-via-else-width-gt4+then-width-rest, then-not-are-known-via-then-not-are-known, then-not-are-known-via-else-not-are-known+then-not-are-good}
+use Rattle.contents.proofs.rule.split.Goals.{then-width-gt4-via-then-width-gt4, then-width-gt4-via-else-width-gt4+then-width-rest, then-not-are_known-via-then-not-are_known, then-not-are_known-via-else-not-are_known+then-not-are_good}
 
 pub returns-then-width-gt4 : goal.returns-then-width-gt4
 returns-then-width-gt4 c kind cells rest h =
@@ -24,10 +24,10 @@ returns-then-not-are_known c kind cells rest h =
     let same = head_cells content count kind cells rest cs rs h c.split_at.ensures.by_index.0 c.split_at.ensures.front-len in
     let w = head_width content count kind cells rest h in
     elim c.then-not-are_known.branch [
-      | then-not-are-known-via-then-not-are-known w' ↦
-          not_from_Decides c.are_known.result c.are_known.ensures w'.if-not-are-known.true (subst (λ (l : List ℕ). Known l count) same h.known)
-      | then-not-are-known-via-else-not-are-known+then-not-are-good w' ↦
-          not_from_Decides w'.are-good.result w'.are-good.ensures w'.if-not-are-good.true
+      | then-not-are_known-via-then-not-are_known w' ↦
+          not_from_Decides c.are_known.result c.are_known.ensures w'.if-not-are_known.true (subst (λ (l : List ℕ). Known l count) same h.known)
+      | then-not-are_known-via-else-not-are_known+then-not-are_good w' ↦
+          not_from_Decides w'.are_good.result w'.are_good.ensures w'.if-not-are_good.true
           (subst (λ (l : List ℕ). GoodCells (get_or content 1 0) l) (ap (filled 0 4) same ∙ sym w'.stored.ensures)
           (subst (λ n. GoodCells n (filled 0 4 cells)) (sym w.0) (stored_good cells count h.some h.few h.known c.requires h.apart)))
     ]
