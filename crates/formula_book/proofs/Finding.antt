@@ -1,8 +1,8 @@
 -- Places chosen position by position. Assumes nothing.
-use Rattle.std.proofs.Common.{◌≡◌, ℕ, zero, suc, ◌+◌, ◌<◌, ◌≤◌, Bool, true, false, ◌&&◌, ltb, List, [], ◌∷◌, map, length, get_or, drop, set, ℤ, pos, Decides, sym, refl, ap, ◌∙◌, subst, ⊎_elim, add-one, arith}
+use Rattle.std.proofs.Common.{◌≡◌, ℕ, zero, suc, ◌+◌, ◌<◌, true, ltb, List, [], ◌∷◌, length, get_or, drop, set, ℤ, sym, refl, ap, ◌∙◌, subst, arith}
 use Rattle.std.proofs.lemmas.List.{drop_more, drop_all, get_or-drop}
 use Rattle.std.proofs.lemmas.Bool.{and_parts, and_from, ltb-true, lt-ltb, false≢true}
-use Rattle.network.specs.Book.{Remains, Supported}
+use Rattle.network.specs.Book.{Supported}
 use Rattle.formulas.specs.declared.node.Node.{Node}
 use Rattle.formulas.specs.Truth.{truth}
 use Rattle.reader.specs.declared.formula.Formula.{Formula}

@@ -1,13 +1,13 @@
-use Rattle.std.proofs.Common.{◌≡◌, ℕ, suc, ◌+◌, ◌<◌, true, false, List, length, get_or, set, ℤ, sym, refl, ap, ◌∙◌, subst, ⊎_elim, arith}
+use Rattle.std.proofs.Common.{◌≡◌, suc, ◌+◌, get_or, set, sym, refl, ap, ◌∙◌, subst, ⊎_elim, arith}
 use Rattle.std.proofs.lemmas.Bool.{false≢true, cases_lt}
 use Rattle.std.proofs.lemmas.Bool.Decides.{not_from_Decides}
 use Rattle.formula_book.specs.Trees.{tree}
 use Rattle.formula_book.specs.Formulas.{number_at}
 use Rattle.formula_book.specs.Support.{Tried, Met, lists_of}
 use Rattle.formula_book.proofs.Grounds.{rooted_standing, grounded_stands}
-use Rattle.formula_book.proofs.Finding.{last_yes, last_no, step-yes, step-no, Next}
+use Rattle.formula_book.proofs.Finding.{last_yes, last_no, step-yes, step-no}
 use Rattle.formula_book.proofs.search.+goes_on.Goals as goal
-use Rattle.formula_book.proofs.search.+goes_on.Goals.{then-is-tried+else-goes-on, else-is-tried}
+use Rattle.formula_book.proofs.search.+goes_on.Goals.{then-is_tried+else-goes_on, else-is_tried}
 
 pub holds-requires : goal.holds-requires
 holds-requires t c = rooted_standing c.args.book.now.nodes.now c.args.formula.now.root c.requires.fit.inside c.requires.fit.rooted
@@ -39,7 +39,7 @@ loop-place-preserved t c =
     let l = lists_of b.lengths.now b.numbers.now in
     let cell = get_or c.args.formula.now.cells c.args.at 0 in
     elim c.if-is_tried.branch [
-      | then-is-tried+else-goes-on w ↦
+      | then-is_tried+else-goes_on w ↦
           λ u h. ⊎_elim
           (λ below. c.loop-place.invariant u below)
           (λ from.
@@ -47,7 +47,7 @@ loop-place-preserved t c =
           false≢true (w.if-goes_on.ensures.1
           (subst (λ x. Met l b.nodes.now c.args.formula.now c.args.sets.now c.args.asked.position c.args.asked.place x (c.args.at + 1)) (ap (λ p. set c.args.row cell (number_at l cell p)) is ∙ sym w.with_place-next.ensures) u.met)))
           (cases_lt u.place c.loop-place.place)
-      | else-is-tried w ↦
+      | else-is_tried w ↦
           λ u h. ⊎_elim
           (λ below. c.loop-place.invariant u below)
           (λ from.

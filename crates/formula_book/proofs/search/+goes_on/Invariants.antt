@@ -1,6 +1,5 @@
-use Rattle.std.proofs.Common.{◌≡◌, ℕ, ◌+◌, ◌-◌, ◌<◌, get_or, set}
-use Rattle.formula_book.specs.Formulas.{number_at}
-use Rattle.formula_book.specs.Support.{Tried, Met, lists_of}
+use Rattle.std.proofs.Common.{◌-◌, ◌<◌}
+use Rattle.formula_book.specs.Support.{lists_of}
 use Rattle.formula_book.proofs.Finding.{Next}
 use Rattle.formula_book.proofs.search.+goes_on.Given as goal
 

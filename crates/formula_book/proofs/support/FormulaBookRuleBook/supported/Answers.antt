@@ -1,4 +1,4 @@
-use Rattle.std.proofs.Common.{◌≡◌, get_or, arith}
+use Rattle.std.proofs.Common.{get_or, arith}
 use Rattle.formula_book.specs.Formulas.{no_formula}
 use Rattle.formula_book.specs.Support.{lists_of}
 use Rattle.formula_book.proofs.Cells.{within, there, fit}
