@@ -24,8 +24,11 @@ SPECIAL = {
     "More-plays": "MorePlays",
     "More-shrinks": "MoreShrinks",
     "not-side-A": "not_side_a",
+    "any-true": "any_stand_true",
 }
 SPLIT = re.compile(r"([\s(){}\[\].,;:|↦→×⊎λ]+)")
+# A signature inside a module or a mutual block.
+INNER = re.compile(r"^ {4,8}(?:abbrev |unfoldable )?(?:pub )?([a-z][a-zA-Z0-9']*(?:-[a-zA-Z0-9']+)+) :(?: |$)")
 GOALS = ("Answers.antt", "Invariants.antt", "Proof.antt")
 
 
@@ -58,7 +61,12 @@ def declared(path, text):
     goals = "/proofs/" in path and path.endswith(GOALS)
     for line in text.split("\n"):
         indent = len(line) - len(line.lstrip(" "))
-        if indent not in (0, 2) or line.strip().startswith("--"):
+        if line.strip().startswith("--"):
+            continue
+        if indent > 2:
+            inner = INNER.match(line)
+            if inner:
+                yield inner.group(1)
             continue
         h = head(line)
         words = h.split() if h is not None else []

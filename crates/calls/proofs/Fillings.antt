@@ -107,15 +107,15 @@ module _ (s : Sheet) (opens : Opens s) where
   }
 
   module _ (h : List Did) (valid : Valid s.lengths (standing h)) where
-    pub inside-filling : (f : List ℕ) → Inside f (start_after s h) → Filling s h f
-    inside-filling f i =
+    pub inside_filling : (f : List ℕ) → Inside f (start_after s h) → Filling s h f
+    inside_filling f i =
         let long : length (start_after s h) ≡ cells s = starts_long s.lengths (standing h) in
         let q : (c : ℕ) → c < cells s → (get_or f c 0 < places s c) × ((v : ℕ) → standing h c ≡ Some v → get_or f c 0 ≡ v) =
         λ c lt. cell_in (places s c) (get_or f c 0) (standing h c) (λ v. valid.listed c v lt) (subst (λ (y : ℕ). In y (get_or f c 0)) (starts_at s.lengths (standing h) c lt) (i.each c (omega arith)).1) in
         record { long = i.long ∙ long; listed = λ c lt. (q c lt).0; keeps = λ c v lt e. (q c lt).1 v e }
 
-    filling-inside : (f : List ℕ) → Filling s h f → Inside f (start_after s h)
-    filling-inside f i =
+    filling_inside : (f : List ℕ) → Filling s h f → Inside f (start_after s h)
+    filling_inside f i =
         let long : length (start_after s h) ≡ cells s = starts_long s.lengths (standing h) in
         record {
           long = i.long ∙ sym long;
@@ -126,8 +126,8 @@ module _ (s : Sheet) (opens : Opens s) where
         }
 
     -- some filling inside the starting sets meets the rules exactly if some filling under the pins does
-    pub met-fillable : (a : ℕ) → Meetable s.book (start_after s h) a → Fillable s h a
-    met-fillable a q = record { filling = q.filling; under = inside-filling q.filling q.inside; meets = q.meets }
+    pub met_fillable : (a : ℕ) → Meetable s.book (start_after s h) a → Fillable s h a
+    met_fillable a q = record { filling = q.filling; under = inside_filling q.filling q.inside; meets = q.meets }
 
-    pub fillable-met : (a : ℕ) → Fillable s h a → Meetable s.book (start_after s h) a
-    fillable-met a q = record { filling = q.filling; inside = filling-inside q.filling q.under; meets = q.meets }
+    pub fillable_met : (a : ℕ) → Fillable s h a → Meetable s.book (start_after s h) a
+    fillable_met a q = record { filling = q.filling; inside = filling_inside q.filling q.under; meets = q.meets }

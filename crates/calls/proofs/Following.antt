@@ -137,11 +137,11 @@ module _ {C : Type 0} (k : Machine C) (s : Sheet) where
   -- the same sizes and the same call
   alike_judged : {b b' : Step} {n : ℕ} → Alike b b' → Judged s (sizes b'.buffers) b'.call n → Judged s (sizes b.buffers) b.call n
   alike_judged {b} {b'} {n} e j =
-      let z : sizes b'.buffers ≡ sizes b.buffers = sizes-same (sym e.work) (sym e.log) (sym e.filling) in
+      let z : sizes b'.buffers ≡ sizes b.buffers = sizes_same (sym e.work) (sym e.log) (sym e.filling) in
       subst₂ (λ (w : Sizes) (c : Call). Judged s w c n) z (sym e.call) j
     where
-      sizes-same : {w w' l l' f f' : ℕ} → w ≡ w' → l ≡ l' → f ≡ f' → ◌≡◌ {A = Sizes} (record { work = w; log = l; filling = f }) (record { work = w'; log = l'; filling = f' })
-      sizes-same a b c = cc
+      sizes_same : {w w' l l' f f' : ℕ} → w ≡ w' → l ≡ l' → f ≡ f' → ◌≡◌ {A = Sizes} (record { work = w; log = l; filling = f }) (record { work = w'; log = l'; filling = f' })
+      sizes_same a b c = cc
 
   agree_plain : {n : ℕ} {a a' : Step} → a.call ≡ a'.call → said a.answer ≡ plain n → said a'.answer ≡ plain n → Agree s a a'
   agree_plain {n} {a} {a'} call e e' = record {
@@ -181,12 +181,12 @@ module _ {C : Type 0} (k : Machine C) (s : Sheet) where
   plays_same no_pairs h x y y' after after' none none = (no_pairs, refl)
   plays_same (and-pairs e es) h x y y' _ _ (more {t = t} {a = a} {after = after} d p) (more {a = a'} {before = before'} {after = after'} d' p') =
       let q = makes_same e d d' in
-      let i : did a ≡ did a' = did-same q.0.call q.0.answer in
+      let i : did a ≡ did a' = did_same q.0.call q.0.answer in
       let r = plays_same es (did a ∷ h) t y y' after after' p (subst₂ (λ (c : Did) (t : Lasting C). PlaysByRuns k s (c ∷ h) t before' after' y') (sym i) (sym q.1) p') in
       (and-pairs q.0 r.0, r.1)
     where
-      did-same : {c c' : Call} {a a' : Answer} → c ≡ c' → a ≡ a' → ◌≡◌ {A = Did} (record { call = c; answer = a }) (record { call = c'; answer = a' })
-      did-same e f = cc
+      did_same : {c c' : Call} {a a' : Answer} → c ≡ c' → a ≡ a' → ◌≡◌ {A = Did} (record { call = c; answer = a }) (record { call = c'; answer = a' })
+      did_same e f = cc
 
   pub plays_follow : {x y : Lasting C} {before after : List Step} → PlaysByRuns k s [] x before after y → Follows k s x before after y
   plays_follow {x} {y} {after = after} p before' after' y' e q = plays_same e [] x y y' after after' p q

@@ -23,7 +23,7 @@ use Rattle.calls.specs.Plays.{sizes, did, Makes, Makes.refused, Makes.changed, M
 use Rattle.calls.specs.Promise.{lines_of, filling_of, Ended, Ended.filled, Ended.clashed, FillingOrCore, FillingsAndCores}
 use Rattle.calls.specs.Runs.{Ran, start_after, Alone, Comes, StepRuns, StepDone, PlaysByRuns}
 use Rattle.calls.proofs.RunLaws.{ran_lawful, ran_fills}
-use Rattle.calls.proofs.Fillings.{whole_has, starts_long, few_rules, where_small, inside-filling, met-fillable, fillable-met}
+use Rattle.calls.proofs.Fillings.{whole_has, starts_long, few_rules, where_small, inside_filling, met_fillable, fillable_met}
 
 -- ---- one meaning of "some filling" for another
 module _ (F G : ℕ → Type 0) (to : (a : ℕ) → F a → G a) (from : (a : ℕ) → G a → F a) where
@@ -50,8 +50,8 @@ module _ {C : Type 0} (k : Machine C) (naming : Naming k) (s : Sheet) (law : Law
   first_run {start} {sets = sets} (fills g) = subst (λ (a : ℕ). Fills s.book start a sets) g.lists (ran_fills k naming s.book law start g.run g.says)
 
   module _ (opens : Opens s) (h : List Did) (valid : Valid s.lengths (standing h)) where
-    small-on : on_after s h < 2 ^ 64
-    small-on = subset_small (on_after s h) (2 ^ 64 - 1) (λ r i. whole_has 64 r (let a = where_small (Rattle.calls.specs.History.is_on h) s.book.count r i in let b = few_rules s opens in omega arith)) (omega arith)
+    small_on : on_after s h < 2 ^ 64
+    small_on = subset_small (on_after s h) (2 ^ 64 - 1) (λ r i. whole_has 64 r (let a = where_small (Rattle.calls.specs.History.is_on h) s.book.count r i in let b = few_rules s opens in omega arith)) (omega arith)
 
     ends : {x y : Lasting C} {a : Step} {f : Values} (out : Outcome (List ℕ)) → Fit (Ran k s.book (start_after s h)) (on_after s h) x (lines_of a f) out y
         → Comes out f (take (length (start_after s h)) (vec_items a.buffers.filling)) → f.lines ≤ length (vec_items a.buffers.log) → Ended s h a f
@@ -63,26 +63,26 @@ module _ {C : Type 0} (k : Machine C) (naming : Naming k) (s : Sheet) (law : Law
         let alone : Alone sets (filling_of s a) = subst (Alone sets) same c.2 in
         let wide : length (filling_of s a) ≡ length (start_after s h) = alone.there.long ∙ sym fl.left.long ∙ fl.inside.long in
         let q = alone_fills fl alone wide in
-        let l = fit_law (Ran k s.book (start_after s h)) (Meetable s.book (start_after s h)) (ran_lawful k naming s.book law (start_after s h)) small-on p in
-        filled (record { verdict = c.0; filling = inside-filling s opens h valid (filling_of s a) q.0; meets = q.1; one = sym count ∙ l.ends.1; no_core = c.1 })
+        let l = fit_law (Ran k s.book (start_after s h)) (Meetable s.book (start_after s h)) (ran_lawful k naming s.book law (start_after s h)) small_on p in
+        filled (record { verdict = c.0; filling = inside_filling s opens h valid (filling_of s a) q.0; meets = q.1; one = sym count ∙ l.ends.1; no_core = c.1 })
     ends {a = a} {f = f} (core found) p c n =
         let count : length (lines_of a f) ≡ f.lines = length-take-le f.lines (vec_items a.buffers.log) n in
-        let l = fit_law (Ran k s.book (start_after s h)) (Meetable s.book (start_after s h)) (ran_lawful k naming s.book law (start_after s h)) small-on p in
-        let d = core_map (Meetable s.book (start_after s h)) (Fillable s h) (met-fillable s opens h valid) (fillable-met s opens h valid) (on_after s h) found l.ends.1 in
+        let l = fit_law (Ran k s.book (start_after s h)) (Meetable s.book (start_after s h)) (ran_lawful k naming s.book law (start_after s h)) small_on p in
+        let d = core_map (Meetable s.book (start_after s h)) (Fillable s h) (met_fillable s opens h valid) (fillable_met s opens h valid) (on_after s h) found l.ends.1 in
         clashed (record {
           verdict = c.0;
-          never = λ q. l.ends.0 (fillable-met s opens h valid (on_after s h) q);
+          never = λ q. l.ends.0 (fillable_met s opens h valid (on_after s h) q);
           core = subst (Core (Fillable s h) (on_after s h)) (sym c.1) d;
           few = λ L e. subst₂ (λ (n m : ℕ). n ≤ size (on_after s h) + 2 + size m * L) count (sym c.1) (l.ends.2 L e);
         })
 
-    fit-promise : {x y : Lasting C} {b a : Step} {f : Values} → StepDone k s h x b a f y → FillingOrCore s h b a f
-    fit-promise {b = b} {a = a} {f = f} d =
-        let l = fit_law (Ran k s.book (start_after s h)) (Meetable s.book (start_after s h)) (ran_lawful k naming s.book law (start_after s h)) small-on d.0.runs in
+    fit_promise : {x y : Lasting C} {b a : Step} {f : Values} → StepDone k s h x b a f y → FillingOrCore s h b a f
+    fit_promise {b = b} {a = a} {f = f} d =
+        let l = fit_law (Ran k s.book (start_after s h)) (Meetable s.book (start_after s h)) (ran_lawful k naming s.book law (start_after s h)) small_on d.0.runs in
         record {
           ended = ends d.0.out d.0.runs d.0.comes d.0.counted;
           counted = d.0.counted;
-          right = each_map (Meetable s.book (start_after s h)) (Fillable s h) (met-fillable s opens h valid) (fillable-met s opens h valid) (lines_of a f) l.lines;
+          right = each_map (Meetable s.book (start_after s h)) (Fillable s h) (met_fillable s opens h valid) (fillable_met s opens h valid) (lines_of a f) l.lines;
           keeps = d.1;
           sized = d.2;
         }
@@ -149,22 +149,22 @@ module _ {S : Type 0} (s : Sheet) (F : List Did → S → Step → Step → Valu
   -- one way to speak of a Fit for another
   module _ {T : Type 0} (G : List Did → T → Step → Step → Values → T → Type 0) (v : S → T)
       (to : (h : List Did) (x y : S) (b a : Step) (f : Values) → Opens s → Valid s.lengths (standing h) → F h x b a f y → G h (v x) b a f (v y)) where
-    pub makes-map : {h : List Did} {x y : S} {b a : Step} → Valid s.lengths (standing h) → Makes s F h x b a y → Makes s G h (v x) b a (v y)
-    makes-map valid (refused j ne e u) = refused j ne e u
-    makes-map valid (changed j ne e u) = changed j ne e u
-    makes-map {h} {x} {y} {b} {a} valid (fitted {f = f} j is e call d) = fitted j is e call (to h x y b a f (done_opens j refl) valid d)
+    pub makes_map : {h : List Did} {x y : S} {b a : Step} → Valid s.lengths (standing h) → Makes s F h x b a y → Makes s G h (v x) b a (v y)
+    makes_map valid (refused j ne e u) = refused j ne e u
+    makes_map valid (changed j ne e u) = changed j ne e u
+    makes_map {h} {x} {y} {b} {a} valid (fitted {f = f} j is e call d) = fitted j is e call (to h x y b a f (done_opens j refl) valid d)
 
-    pub plays-map : {h : List Did} {x y : S} {before after : List Step} → Valid s.lengths (standing h) → Plays s F h x before after y → Plays s G h (v x) before after (v y)
-    plays-map valid none = none
-    plays-map valid (more d p) = more (makes-map valid d) (plays-map (valid_next valid d) p)
+    pub plays_map : {h : List Did} {x y : S} {before after : List Step} → Valid s.lengths (standing h) → Plays s F h x before after y → Plays s G h (v x) before after (v y)
+    plays_map valid none = none
+    plays_map valid (more d p) = more (makes_map valid d) (plays_map (valid_next valid d) p)
 
 pub none_valid : (lengths : List ℕ) → Valid lengths (standing [])
 none_valid lengths = record { listed = λ c v lt e. absurd (some_none (sym e)) }
 
 module _ {C : Type 0} (k : Machine C) (naming : Naming k) (s : Sheet) (law : Lawful s.book) where
   pub plays_promise : {x y : Lasting C} {before after : List Step} → Plays s (StepDone k s) [] x before after y → FillingsAndCores s before after
-  plays_promise p = plays-map s (StepDone k s) (λ h _ b a f _. FillingOrCore s h b a f) (λ _. tt)
-      (λ h x y b a f opens valid d. fit-promise k naming s law opens h valid d) (none_valid s.lengths) p
+  plays_promise p = plays_map s (StepDone k s) (λ h _ b a f _. FillingOrCore s h b a f) (λ _. tt)
+      (λ h x y b a f opens valid d. fit_promise k naming s law opens h valid d) (none_valid s.lengths) p
 
 pub plays_runs : {C : Type 0} (k : Machine C) (s : Sheet) {x y : Lasting C} {before after : List Step} → Plays s (StepDone k s) [] x before after y → PlaysByRuns k s [] x before after y
-plays_runs k s p = plays-map s (StepDone k s) (λ h x b a f y. StepRuns k s h x a f y) (λ x. x) (λ h x y b a f opens valid d. d.0) (none_valid s.lengths) p
+plays_runs k s p = plays_map s (StepDone k s) (λ h x b a f y. StepRuns k s h x a f y) (λ x. x) (λ h x y b a f opens valid d. d.0) (none_valid s.lengths) p

@@ -29,31 +29,31 @@ module _ {S O : Type 0} (R : S → Line → O → S → Type 0) where
     abbrev pub More-halves : ℕ → ℕ → S → List Line → ℕ → ℕ → S → Type 0
     More-halves lo₀ hi₀ s₀ ws lo hi s = (ls : List Line) (j : ℕ) (u : S) → Halves R found cs lo hi s ls j u → Halves R found cs lo₀ hi₀ s₀ (ws ++ ls) j u
 
-    pub halve-down : {lo₀ hi₀ lo hi : ℕ} {m : Line} {s₀ s t : S} {o : O} (ws : List Line) → lo < hi → Gives R (with_first found ((lo + hi) / 2) cs) 1 s m o t
+    pub halve_down : {lo₀ hi₀ lo hi : ℕ} {m : Line} {s₀ s t : S} {o : O} (ws : List Line) → lo < hi → Gives R (with_first found ((lo + hi) / 2) cs) 1 s m o t
         → More-halves lo₀ hi₀ s₀ ws lo hi s → More-halves lo₀ hi₀ s₀ (ws ++ m ∷ []) lo ((lo + hi) / 2) t
-    halve-down {lo₀} {hi₀} {m = m} {s₀} ws lt g k ls j u p = subst (λ (xs : List Line). Halves R found cs lo₀ hi₀ s₀ xs j u) (sym (append_assoc ws (m ∷ []) ls)) (k (m ∷ ls) j u (down lt g p))
+    halve_down {lo₀} {hi₀} {m = m} {s₀} ws lt g k ls j u p = subst (λ (xs : List Line). Halves R found cs lo₀ hi₀ s₀ xs j u) (sym (append_assoc ws (m ∷ []) ls)) (k (m ∷ ls) j u (down lt g p))
 
-    pub halve-up : {lo₀ hi₀ lo hi : ℕ} {m : Line} {s₀ s t : S} {o : O} (ws : List Line) → lo < hi → Gives R (with_first found ((lo + hi) / 2) cs) 0 s m o t
+    pub halve_up : {lo₀ hi₀ lo hi : ℕ} {m : Line} {s₀ s t : S} {o : O} (ws : List Line) → lo < hi → Gives R (with_first found ((lo + hi) / 2) cs) 0 s m o t
         → More-halves lo₀ hi₀ s₀ ws lo hi s → More-halves lo₀ hi₀ s₀ (ws ++ m ∷ []) ((lo + hi) / 2 + 1) hi t
-    halve-up {lo₀} {hi₀} {m = m} {s₀} ws lt g k ls j u p = subst (λ (xs : List Line). Halves R found cs lo₀ hi₀ s₀ xs j u) (sym (append_assoc ws (m ∷ []) ls)) (k (m ∷ ls) j u (up lt g p))
+    halve_up {lo₀} {hi₀} {m = m} {s₀} ws lt g k ls j u p = subst (λ (xs : List Line). Halves R found cs lo₀ hi₀ s₀ xs j u) (sym (append_assoc ws (m ∷ []) ls)) (k (m ∷ ls) j u (up lt g p))
 
-    pub halve-end : {lo₀ hi₀ lo hi : ℕ} {s₀ s : S} (ws : List Line) → lo ≡ hi → More-halves lo₀ hi₀ s₀ ws lo hi s → Halves R found cs lo₀ hi₀ s₀ ws lo s
-    halve-end {lo₀} {hi₀} {lo} {s₀ = s₀} {s = s} ws e k = subst (λ (xs : List Line). Halves R found cs lo₀ hi₀ s₀ xs lo s) (append-nil ws) (k [] lo s (met e))
+    pub halve_end : {lo₀ hi₀ lo hi : ℕ} {s₀ s : S} (ws : List Line) → lo ≡ hi → More-halves lo₀ hi₀ s₀ ws lo hi s → Halves R found cs lo₀ hi₀ s₀ ws lo s
+    halve_end {lo₀} {hi₀} {lo} {s₀ = s₀} {s = s} ws e k = subst (λ (xs : List Line). Halves R found cs lo₀ hi₀ s₀ xs lo s) (append-nil ws) (k [] lo s (met e))
 
   module _ (cs : List ℕ) where
     -- the same for rounds
     abbrev pub More-rounds : ℕ → ℕ → S → List Line → ℕ → ℕ → S → Type 0
     More-rounds f₀ n₀ s₀ ws found n s = (ls : List Line) (c : ℕ) (w : S) → Rounds R cs found n s ls c w → Rounds R cs f₀ n₀ s₀ (ws ++ ls) c w
 
-    pub round-more : {f₀ n₀ found n j f : ℕ} {m : Line} {s₀ s t u : S} {o : O} {vs : List Line} (ws : List Line) → Gives R found 0 s m o t → Halves R found cs 1 n t vs j u
+    pub round_more : {f₀ n₀ found n j f : ℕ} {m : Line} {s₀ s t u : S} {o : O} {vs : List Line} (ws : List Line) → Gives R found 0 s m o t → Halves R found cs 1 n t vs j u
         → with_rule found j cs ≡ f → More-rounds f₀ n₀ s₀ ws found n s → More-rounds f₀ n₀ s₀ ((ws ++ m ∷ []) ++ vs) f (j - 1) u
-    round-more {f₀} {n₀} {j = j} {m = m} {s₀} {u = u} {vs = vs} ws g h e k ls c w p =
+    round_more {f₀} {n₀} {j = j} {m = m} {s₀} {u = u} {vs = vs} ws g h e k ls c w p =
         subst (λ (xs : List Line). Rounds R cs f₀ n₀ s₀ xs c w) (sym (append_assoc (ws ++ m ∷ []) vs ls ∙ append_assoc ws (m ∷ []) (vs ++ ls)))
         (k (m ∷ (vs ++ ls)) c w (round g h (subst (λ (x : ℕ). Rounds R cs x (j - 1) u ls c w) (sym e) p)))
 
-    pub round-end : {f₀ n₀ n₁ found n : ℕ} {m : Line} {s₀ s t : S} {o : O} (ws : List Line) → n₀ ≡ n₁ → Gives R found 1 s m o t
+    pub round_end : {f₀ n₀ n₁ found n : ℕ} {m : Line} {s₀ s t : S} {o : O} (ws : List Line) → n₀ ≡ n₁ → Gives R found 1 s m o t
         → More-rounds f₀ n₀ s₀ ws found n s → Rounds R cs f₀ n₁ s₀ (ws ++ m ∷ []) found t
-    round-end {f₀} {found = found} {m = m} {s₀} {t = t} ws e g k = subst (λ (x : ℕ). Rounds R cs f₀ x s₀ (ws ++ m ∷ []) found t) e (k (m ∷ []) found t (alone g))
+    round_end {f₀} {found = found} {m = m} {s₀} {t = t} ws e g k = subst (λ (x : ℕ). Rounds R cs f₀ x s₀ (ws ++ m ∷ []) found t) e (k (m ∷ []) found t (alone g))
 
   -- ---- a whole Fit
   module _ (Fits : ℕ → Type 0) (law : Lawful R Fits) where

@@ -104,18 +104,18 @@ pub all_read : (content : List ℕ) (before after : List ℤ) (n : ℕ) → SoFa
 all_read content before after n s long some few room = record {
   list = take n after;
   good = record {
-    some = omega (arith, length-is);
-    few = omega (arith, length-is);
-    small = λ k h. subst (λ (y : ℤ). nat_abs y ≤ 1000000) (sym (at k (omega (arith, length-is)))) (s.small k (omega (arith, length-is)));
-    apart = λ j k h l e. s.apart j k h (omega (arith, length-is)) (sym (at j (omega (arith, length-is))) ∙ e ∙ at k (omega (arith, length-is)));
+    some = omega (arith, length_is);
+    few = omega (arith, length_is);
+    small = λ k h. subst (λ (y : ℤ). nat_abs y ≤ 1000000) (sym (at k (omega (arith, length_is)))) (s.small k (omega (arith, length_is)));
+    apart = λ j k h l e. s.apart j k h (omega (arith, length_is)) (sym (at j (omega (arith, length_is))) ∙ e ∙ at k (omega (arith, length_is)));
   };
-  said = said_whole (take n after) content (omega (arith, length-is)) (λ j h. ap four_bytes (at j (omega (arith, length-is))) ∙ s.said j (omega (arith, length-is)));
-  count = sym length-is;
-  stored = sym (take-append-drop n after) ∙ ap (λ l. take n after ++ l) (s.rest ∙ ap (λ m. drop m before) (sym length-is));
+  said = said_whole (take n after) content (omega (arith, length_is)) (λ j h. ap four_bytes (at j (omega (arith, length_is))) ∙ s.said j (omega (arith, length_is)));
+  count = sym length_is;
+  stored = sym (take-append-drop n after) ∙ ap (λ l. take n after ++ l) (s.rest ∙ ap (λ m. drop m before) (sym length_is));
 }
   where
-    length-is : length (take n after) ≡ n
-    length-is = length-take-le n after (omega (arith, s.same))
+    length_is : length (take n after) ≡ n
+    length_is = length-take-le n after (omega (arith, s.same))
 
     at : (j : ℕ) → j < n → get_or (take n after) j (pos 0) ≡ get_or after j (pos 0)
     at j h = get_or-take n after j (pos 0) h

@@ -157,7 +157,7 @@ all_rows content lengths start before after rule kind cells rest count h long al
     few = h.few;
     known = λ k l. omega (arith, h.known k l, ap length e, length-map lists length);
     apart = h.apart;
-    rows = λ i l. let below : i < count = omega (arith, length_cut count (length cells) rest) in good-row lists e i below;
+    rows = λ i l. let below : i < count = omega (arith, length_cut count (length cells) rest) in good_row lists e i below;
   };
   said = h.said ∙ ap (λ l. kind_byte kind ∷ length cells ∷ (cells ++ l)) (sym (joined_cut count (length cells) rest long));
   rule_is = is ∙ (λ i. record { kind = kind; width = length cells; cells = filled 0 4 cells; start = start; count = sym (length_cut count (length cells) rest) i });
@@ -167,8 +167,8 @@ all_rows content lengths start before after rule kind cells rest count h long al
     rows : List (List ℕ)
     rows = cut count (length cells) rest
 
-    good-row : (lists : List (List ℤ)) → map length lists ≡ lengths → (i : ℕ) → i < count → GoodRow lists cells (get_or (cut count (length cells) rest) i [])
-    good-row lists e i l = subst (GoodRow lists cells) (sym (item_cut count (length cells) rest i l)) (record {
+    good_row : (lists : List (List ℤ)) → map length lists ≡ lengths → (i : ℕ) → i < count → GoodRow lists cells (get_or (cut count (length cells) rest) i [])
+    good_row lists e i l = subst (GoodRow lists cells) (sym (item_cut count (length cells) rest i l)) (record {
       wide = length-take-le (length cells) (drop (i * length cells) rest) (omega (arith, length-drop (i * length cells) rest, row_within count (length cells) i l));
       listed = λ k m. subst (λ (z : ℕ). get_or (row_at (length cells) rest i) k 0 < z)
           (sym (ap (λ (ls : List ℕ). get_or ls (get_or cells k 0) 0) e) ∙ get_or-map length lists (get_or cells k 0) [] 0 (omega (arith, h.known k m, ap length e, length-map lists length)))

@@ -113,8 +113,8 @@ module _ {S O : Type 0} (R : S → Line → O → S → Type 0) (Fits : ℕ → 
 
   module _ (on : ℕ) (cs : List ℕ) (small : (i : ℕ) → i < length cs → get_or cs i 0 < 64) (ons : Subset (set_of cs) on) where
     -- the found rules and the first candidates are on
-    pub first-among : {found n : ℕ} (j : ℕ) → Ahead on cs found n → Subset (with_first found j cs) on
-    first-among {found} j a = or_subset found (set_of (take j cs)) on a.among
+    pub first_among : {found n : ℕ} (j : ℕ) → Ahead on cs found n → Subset (with_first found j cs) on
+    first_among {found} j a = or_subset found (set_of (take j cs)) on a.among
         (λ r h. ons r (subst (λ (xs : List ℕ). In (set_of xs) r) (take_all (length cs + j) cs (omega arith)) (first_mono j (length cs + j) cs (omega arith) r h)))
 
     -- the found rules and the candidates to j, among those with candidate j found and the ones before it
@@ -128,8 +128,8 @@ module _ {S O : Type 0} (R : S → Line → O → S → Type 0) (Fits : ℕ → 
         (or_has (set_of (take (j - 1) cs)) (2 ^ r) q (first_more j cs h k q p)))
 
     -- the other way: a rule of the later set is a rule of the earlier one, or candidate j
-    grown-back : (found j q : ℕ) → In (with_first (with_rule found j cs) (j - 1) cs) q → In (with_first found (j - 1) cs) q ⊎ (q ≡ get_or cs (j - 1) 0)
-    grown-back found j q h =
+    grown_back : (found j q : ℕ) → In (with_first (with_rule found j cs) (j - 1) cs) q → In (with_first found (j - 1) cs) q ⊎ (q ≡ get_or cs (j - 1) 0)
+    grown_back found j q h =
         let r = get_or cs (j - 1) 0 in
         ⊎_elim (λ k. ⊎_elim (λ a. inl (has_left found (set_of (take (j - 1) cs)) q a)) (λ b. inr (has_pow r q b)) (or_has found (2 ^ r) q k))
         (λ k. inl (has_right found (set_of (take (j - 1) cs)) q k))
@@ -138,7 +138,7 @@ module _ {S O : Type 0} (R : S → Line → O → S → Type 0) (Fits : ℕ → 
     -- candidate j is not found yet
     new : (found j : ℕ) → 1 ≤ j → j ≤ length cs → Fits (with_first found (j - 1) cs) → (Fits (with_first found j cs) → ⊥) → In found (get_or cs (j - 1) 0) → ⊥
     new found j h k f c p = c (less (with_first found j cs) (with_first found (j - 1) cs)
-        (λ q m. ⊎_elim (λ x. x) (λ e. has_left found (set_of (take (j - 1) cs)) q (subst (In found) (sym e) p)) (grown-back found j q (grown found j h k q m))) f)
+        (λ q m. ⊎_elim (λ x. x) (λ e. has_left found (set_of (take (j - 1) cs)) q (subst (In found) (sym e) p)) (grown_back found j q (grown found j h k q m))) f)
 
     next : (found n j : ℕ) → Ahead on cs found n → 1 ≤ j → j ≤ n → Fits (with_first found (j - 1) cs) → (Fits (with_first found j cs) → ⊥)
         → Ahead on cs (with_rule found j cs) (j - 1)
@@ -155,8 +155,8 @@ module _ {S O : Type 0} (R : S → Line → O → S → Type 0) (Fits : ℕ → 
               (λ old. a.needed q old b (λ x m. ⊎_elim
               (λ w. or_mono found (set_of (take (j - 1) cs)) (set_of (take n cs)) (first_mono (j - 1) n cs (omega arith)) x w)
               (λ e. has_right found (set_of (take n cs)) x (subst (In (set_of (take n cs))) (sym e) (has_first n cs (j - 1) (omega arith) at)))
-              (grown-back found j x (sub x m))) out)
-              (λ is. less b (with_first found (j - 1) cs) (λ x m. ⊎_elim (λ w. w) (λ e. absurd (out (subst (In b) (e ∙ sym (has_pow r q is)) m))) (grown-back found j x (sub x m))) f)
+              (grown_back found j x (sub x m))) out)
+              (λ is. less b (with_first found (j - 1) cs) (λ x m. ⊎_elim (λ w. w) (λ e. absurd (out (subst (In b) (e ∙ sym (has_pow r q is)) m))) (grown_back found j x (sub x m))) f)
               (or_has found (2 ^ r) q p);
         }
 
@@ -174,9 +174,9 @@ module _ {S O : Type 0} (R : S → Line → O → S → Type 0) (Fits : ℕ → 
         → Ahead on cs (with_rule found j cs) (j - 1)
     halved {found} {n} {j} a f p = let h = begins a f p in next found n j a h.0 h.1 h.2 h.3
 
-    rounds-law : {found n c : ℕ} {s t : S} {ls : List Line} → Rounds R cs found n s ls c t → Ahead on cs found n
+    rounds_law : {found n c : ℕ} {s t : S} {ls : List Line} → Rounds R cs found n s ls c t → Ahead on cs found n
         → Core Fits on c × ((k : ℕ) × (size c ≡ size found + k) × (k ≤ n) × ((L : ℕ) → length cs ≤ 2 ^ L → length ls ≤ 1 + k + k * L))
-    rounds-law {found} {n} (alone g) a = (
+    rounds_law {found} {n} (alone g) a = (
       record {
         among = a.among;
         clash = clash g;
@@ -186,14 +186,14 @@ module _ {S O : Type 0} (R : S → Line → O → S → Type 0) (Fits : ℕ → 
       },
       (0, omega arith, omega arith, λ L h. omega arith),
     )
-    rounds-law {found} {n} (round {j = j} {ls = ls} {ms = ms} g p q) a =
+    rounds_law {found} {n} (round {j = j} {ls = ls} {ms = ms} g p q) a =
         let f = fits g in
         let r = get_or cs (j - 1) 0 in
         let most : n ≤ length cs = a.most in
         let h = begins a f p in
         let lo : 1 ≤ j = h.0 in
         let hi : j ≤ n = h.1 in
-        let i = rounds-law q (next found n j a lo hi h.2 h.3) in
+        let i = rounds_law q (next found n j a lo hi h.2 h.3) in
         let fresh = size_add found r (small (j - 1) (omega arith)) (new found j lo (omega arith) h.2 h.3) in
         let k = i.1.0 in
         let ke = i.1.1 in
@@ -230,7 +230,7 @@ module _ {S O : Type 0} (R : S → Line → O → S → Type 0) (Fits : ℕ → 
       let a = shrinks_law p (rw e h) ((right g.run).among g.says) ((right g.run).clash g.says) in
       let sub : Subset c on = subst (Subset c) e a.0 in
       let small = subset_small c on sub h in
-      let i = rounds-law on (members c) (λ i l. (member_has c i l).1) (λ r k. sub r (members_subset c r k)) q (at_first small sub a.1) in
+      let i = rounds_law on (members c) (λ i l. (member_has c i l).1) (λ r k. sub r (members_subset c r k)) q (at_first small sub a.1) in
       let n : length ls + size c ≤ size on = subst (λ (x : ℕ). length ls + size c ≤ size x) e a.2 in (
         i.0,
         λ L le.

@@ -327,15 +327,15 @@ unfolding below
 at_rank zero s r d h k = absurd (omega arith)
 at_rank (suc n) s r d h k = elim (cases_eq r n) [
   | inl e ↦ get_or-append_right (below n s) (cond (eqb (s / 2 ^ n % 2) 1) (n ∷ []) []) (length (below n s)) (length (below r s)) d refl (le_of_eq (ap (λ (x : ℕ). length (below x s)) (sym e)))
-      ∙ tail_at s n (length (below r s) - length (below n s)) d (subst (In s) e k) (zero-of-eq (ap (λ (x : ℕ). length (below x s)) e)) ∙ sym e
+      ∙ tail_at s n (length (below r s) - length (below n s)) d (subst (In s) e k) (zero_of_eq (ap (λ (x : ℕ). length (below x s)) e)) ∙ sym e
   | inr ne ↦ get_or_append_left (below n s) (cond (eqb (s / 2 ^ n % 2) 1) (n ∷ []) []) d (length (below r s)) (rank_lt n s r (omega arith) k) ∙ at_rank n s r d (omega arith) k
 ]
   where
     le_of_eq : {a b : ℕ} → a ≡ b → a ≤ b
     le_of_eq e = omega arith
 
-    zero-of-eq : {a b : ℕ} → a ≡ b → a - b ≡ 0
-    zero-of-eq e = omega arith
+    zero_of_eq : {a b : ℕ} → a ≡ b → a - b ≡ 0
+    zero_of_eq e = omega arith
 
 pub nth_is : (s r place : ℕ) → r < 64 → In s r → place ≡ length (below r s) → r ≡ get_or (members s) place 64
 unfolding members

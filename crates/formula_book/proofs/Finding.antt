@@ -32,8 +32,8 @@ module _ (l : Lists) (ns : List Node) (f : Formula) (sets : List ℕ) (i v : ℕ
     last_no e m = ap (λ cs. truth (assigned l numbers cs m.rest) (tree (suc f.root) ns f.root)) (sym (drop_all n (cells_of f) (omega (arith, width_of f)))) ∙ m.holds
 
     -- one more place
-    pub step-yes : n < f.width → (w : ℕ) → Tried l sets i v (get_or f.cells n 0) n w → Met l ns f sets i v (set numbers (get_or f.cells n 0) (number_at l (get_or f.cells n 0) w)) (n + 1) → Met l ns f sets i v numbers n
-    step-yes h w t m = record {
+    pub step_yes : n < f.width → (w : ℕ) → Tried l sets i v (get_or f.cells n 0) n w → Met l ns f sets i v (set numbers (get_or f.cells n 0) (number_at l (get_or f.cells n 0) w)) (n + 1) → Met l ns f sets i v numbers n
+    step_yes h w t m = record {
       rest = w ∷ m.rest;
       wide = omega (arith, m.wide);
       tried = go;
@@ -50,8 +50,8 @@ module _ (l : Lists) (ns : List Node) (f : Formula) (sets : List ℕ) (i v : ℕ
       pub tried : Tried l sets i v (get_or f.cells n 0) n place
       pub met : Met l ns f sets i v (set numbers (get_or f.cells n 0) (number_at l (get_or f.cells n 0) place)) (n + 1)
 
-    pub step-no : n < f.width → Met l ns f sets i v numbers n → Next
-    step-no h m = go m.rest m.wide m.tried m.holds
+    pub step_no : n < f.width → Met l ns f sets i v numbers n → Next
+    step_no h m = go m.rest m.wide m.tried m.holds
       where
         go : (rest : List ℕ) → n + length rest ≡ f.width → ((k : ℕ) → k < length rest → Tried l sets i v (get_or f.cells (n + k) 0) (n + k) (get_or rest k 0))
             → truth (assigned l numbers (drop n (cells_of f)) rest) (tree (suc f.root) ns f.root) ≡ true → Next

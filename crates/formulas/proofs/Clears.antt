@@ -77,8 +77,8 @@ module _ {cells : ℕ} {s : List ℕ} where
 
   -- digits within the limit
   module _ {n at end : ℕ} (p : Spans s at (numeral n) end) (few : n ≤ 1000000) (stop : (Digit (next (drop end s)) → ⊥) ⊎ (n ≡ 0)) where
-    not-large : (j : ℕ) → at ≤ j → j < end → TooLarge cells s j → ⊥
-    not-large j low high f = go f.token f.large f.stands
+    not_large : (j : ℕ) → at ≤ j → j < end → TooLarge cells s j → ⊥
+    not_large j low high f = go f.token f.large f.stands
       where
         go : (w : List ℕ) → Oversize cells s j w → drop j s ≡ w ++ drop (j + length w) s → ⊥
         go w (cell h) e = let d = spans_digits (numeral n) (digits_numeral n) p j low high in omega (arith, d.1, ap next e)
@@ -89,10 +89,10 @@ module _ {cells : ℕ} {s : List ℕ} where
             (λ ne. g (j - 1) (omega arith) (spans_digits (numeral n) (digits_numeral n) p (j - 1) (omega arith) (omega arith)))
             (cases_eq at j)
 
-    pub clear-digits : Clear cells s at → Clear cells s end
-    clear-digits c = record {
+    pub clear_digits : Clear cells s at → Clear cells s end
+    clear_digits c = record {
       deep = λ j f. ⊎_elim (λ lt. lt) (λ le. let d = spans_digits (numeral n) (digits_numeral n) p f.before (omega (arith, c.deep j f, f.after)) (omega (arith, f.after)) in absurd (omega (arith, d.0, f.bracket))) (cases_lt end j);
-      large = λ j f. ⊎_elim (λ lt. absurd (not-large j (c.large j f) lt f)) (λ le. le) (cases_lt j end);
+      large = λ j f. ⊎_elim (λ lt. absurd (not_large j (c.large j f) lt f)) (λ le. le) (cases_lt j end);
     }
 
   -- C, where no missing cell's number stands after it
@@ -129,79 +129,79 @@ module _ {cells : ℕ} {s : List ℕ} where
   clear_shift {at} {end} i Bare c before d p known f = subst (Clear cells s) (sym (p.upto ∙ omega arith)) c
   clear_shift {at} {end} i (Plus n) c before d p known f =
       let q = spans_split (43 ∷ []) (numeral n) p in
-      clear-digits q.1 known (inl f) (clear_sign 43 i c (spans_next p) (inl refl) before d)
+      clear_digits q.1 known (inl f) (clear_sign 43 i c (spans_next p) (inl refl) before d)
   clear_shift {at} {end} i (Minus n) c before d p known f =
       let q = spans_split (45 ∷ []) (numeral n) p in
-      clear-digits q.1 known (inl f) (clear_sign 45 i c (spans_next p) (inr refl) before d)
+      clear_digits q.1 known (inl f) (clear_sign 45 i c (spans_next p) (inr refl) before d)
 
   module _ (many : cells ≤ 1000000) where
-    pub clear-side : (a : Side) {at end : ℕ} → Clear cells s at → Spans s at (side_text a) end → KnownSide cells a → EndsSide a (next (drop end s)) → Clear cells s end
-    clear-side (Number (pos n)) c p known f = clear-digits p known (inl f) c
-    clear-side (Number (negsuc n)) {at} {end} c p known f =
+    pub clear_side : (a : Side) {at end : ℕ} → Clear cells s at → Spans s at (side_text a) end → KnownSide cells a → EndsSide a (next (drop end s)) → Clear cells s end
+    clear_side (Number (pos n)) c p known f = clear_digits p known (inl f) c
+    clear_side (Number (negsuc n)) {at} {end} c p known f =
         let q = spans_split (45 ∷ []) (numeral (suc n)) p in
-        clear-digits q.1 known (inl f) (clear_minus c (spans_next p) (λ m t e. omega (arith, numeral_prefix m (suc n) t (drop end s) (inl f) (sym e ∙ q.1.said))))
-    clear-side (Cell n h) {at} {end} c p known f =
+        clear_digits q.1 known (inl f) (clear_minus c (spans_next p) (λ m t e. omega (arith, numeral_prefix m (suc n) t (drop end s) (inl f) (sym e ∙ q.1.said))))
+    clear_side (Cell n h) {at} {end} c p known f =
         let mid = at + length (67 ∷ numeral n) in
         let q = spans_split (67 ∷ numeral n) (shift_text h) p in
         let r = spans_split (67 ∷ []) (numeral n) q.0 in
         let l = last_digit n r.1 in
         let stop : Digit (next (drop mid s)) → ⊥ = λ d. shift_ends h (drop end s) f (subst (λ x. Digit (next x)) q.1.said d) in
         let c₁ = clear_letter c (spans_next p) (λ m t e. omega (arith, numeral_prefix m n t (drop mid s) (inl stop) (sym e ∙ r.1.said), known.0)) in
-        clear_shift l.0 h (clear-digits r.1 (omega (arith, known.0)) (inl stop) c₁) l.1 l.2 q.1 known.1 f
+        clear_shift l.0 h (clear_digits r.1 (omega (arith, known.0)) (inl stop) c₁) l.1 l.2 q.1 known.1 f
 
-    pub clear-bytes : (w : List ℕ) {at end : ℕ} → Plain w → Clear cells s at → Spans s at w end → Clear cells s end
-    clear-bytes [] a c p = subst (Clear cells s) (sym (p.upto ∙ omega arith)) c
-    clear-bytes (b ∷ w) a c p = clear-bytes w a.1 (clear_plain b c (spans_next p) a.0.0 a.0.1) (spans_split (b ∷ []) w p).1
+    pub clear_bytes : (w : List ℕ) {at end : ℕ} → Plain w → Clear cells s at → Spans s at w end → Clear cells s end
+    clear_bytes [] a c p = subst (Clear cells s) (sym (p.upto ∙ omega arith)) c
+    clear_bytes (b ∷ w) a c p = clear_bytes w a.1 (clear_plain b c (spans_next p) a.0.0 a.0.1) (spans_split (b ∷ []) w p).1
 
-    pub clear-relation : {at end : ℕ} (o : Relation) → Clear cells s at → Spans s at (relation_text o) end → Clear cells s end
-    clear-relation o c p = clear-bytes (relation_text o) (relation_plain o) c p
+    pub clear_relation : {at end : ℕ} (o : Relation) → Clear cells s at → Spans s at (relation_text o) end → Clear cells s end
+    clear_relation o c p = clear_bytes (relation_text o) (relation_plain o) c p
 
     -- an opening word, at a level below 16
-    pub clear-open : {at end l : ℕ} (w : List ℕ) → Plain w → count 40 w ≡ count 41 w → Clear cells s at → Spans s at (w ++ (40 ∷ [])) end → Deep s at l → l < 16 → Clear cells s end
-    clear-open {at} {end} {l} w a flat c p d low =
+    pub clear_open : {at end l : ℕ} (w : List ℕ) → Plain w → count 40 w ≡ count 41 w → Clear cells s at → Spans s at (w ++ (40 ∷ [])) end → Deep s at l → l < 16 → Clear cells s end
+    clear_open {at} {end} {l} w a flat c p d low =
         let q = spans_split w (40 ∷ []) p in
-        let c' = clear-bytes w a c q.0 in
+        let c' = clear_bytes w a c q.0 in
         let l' = deep_level (deep_flat q.0 flat d) in
         subst (Clear cells s) (sym q.1.upto) (clear_step c' (λ h e. omega arith) (λ t. bracket (subst SideFirst (spans_next q.1) (large_first t))))
 
-    pub clear-close : {at : ℕ} (b : ℕ) → (b ≡ 41) ⊎ (b ≡ 44) → Clear cells s at → next (drop at s) ≡ b → Clear cells s (at + 1)
-    clear-close b is c e = clear_plain b c e (λ h. ⊎_elim (λ x. omega arith) (λ x. omega arith) is)
+    pub clear_close : {at : ℕ} (b : ℕ) → (b ≡ 41) ⊎ (b ≡ 44) → Clear cells s at → next (drop at s) ≡ b → Clear cells s (at + 1)
+    clear_close b is c e = clear_plain b c e (λ h. ⊎_elim (λ x. omega arith) (λ x. omega arith) is)
         (λ f. ⊎_elim (λ x. omega (arith, x.0, is')) (λ g. ⊎_elim (λ x. omega (arith, is')) (λ x. omega (arith, is')) g) f)
       where
         is' : b < 45
         is' = ⊎_elim (λ x. omega arith) (λ x. omega arith) is
 
     mutual
-      pub clear-condition : {at end l : ℕ} (x : Condition) → Clear cells s at → Deep s at l → Spans s at (text x) end → Known cells x → levels x + l ≤ 17 → Ends x (next (drop end s)) → Clear cells s end
-      clear-condition (compares a o b) c d p known low f =
+      pub clear_condition : {at end l : ℕ} (x : Condition) → Clear cells s at → Deep s at l → Spans s at (text x) end → Known cells x → levels x + l ≤ 17 → Ends x (next (drop end s)) → Clear cells s end
+      clear_condition (compares a o b) c d p known low f =
           let q = spans_split (side_text a) (relation_text o ++ side_text b) p in
           let r = spans_split (relation_text o) (side_text b) q.1 in
-          let c₁ = clear-side a c q.0 known.0 (ends_any a _ (subst (λ x. EndsShift Bare (next x)) (sym r.0.said) (relation_ends o (drop _ s)))) in
-          clear-side b (clear-relation o c₁ r.0) r.1 known.1 f
-      clear-condition (negates x) c d p known low f =
+          let c₁ = clear_side a c q.0 known.0 (ends_any a _ (subst (λ x. EndsShift Bare (next x)) (sym r.0.said) (relation_ends o (drop _ s)))) in
+          clear_side b (clear_relation o c₁ r.0) r.1 known.1 f
+      clear_condition (negates x) c d p known low f =
           let q = spans_split not_word (text x ++ (41 ∷ [])) p in
           let r = spans_split (text x) (41 ∷ []) q.1 in
           let i = levels_some x in
-          let c₁ = clear-open (78 ∷ 79 ∷ 84 ∷ []) word_not refl c q.0 d (omega arith) in
-          let c₂ = clear-condition x c₁ (deep_open q.0 refl d) r.0 known (omega arith) (subst (Ends x) (sym (spans_next r.1)) (ends_closed x)) in
-          subst (Clear cells s) (sym r.1.upto) (clear-close 41 (inl refl) c₂ (spans_next r.1))
-      clear-condition (all xs) c d p known low f =
+          let c₁ = clear_open (78 ∷ 79 ∷ 84 ∷ []) word_not refl c q.0 d (omega arith) in
+          let c₂ = clear_condition x c₁ (deep_open q.0 refl d) r.0 known (omega arith) (subst (Ends x) (sym (spans_next r.1)) (ends_closed x)) in
+          subst (Clear cells s) (sym r.1.upto) (clear_close 41 (inl refl) c₂ (spans_next r.1))
+      clear_condition (all xs) c d p known low f =
           let q = spans_split and_word (list_text xs ++ (41 ∷ [])) p in
           let i = list_levels_some xs in
-          clear-list xs (clear-open (65 ∷ 78 ∷ 68 ∷ []) word_and refl c q.0 d (omega arith)) (deep_open q.0 refl d) q.1 known (omega arith)
-      clear-condition (any xs) c d p known low f =
+          clear_list xs (clear_open (65 ∷ 78 ∷ 68 ∷ []) word_and refl c q.0 d (omega arith)) (deep_open q.0 refl d) q.1 known (omega arith)
+      clear_condition (any xs) c d p known low f =
           let q = spans_split or_word (list_text xs ++ (41 ∷ [])) p in
           let i = list_levels_some xs in
-          clear-list xs (clear-open (79 ∷ 82 ∷ []) word_or refl c q.0 d (omega arith)) (deep_open q.0 refl d) q.1 known (omega arith)
+          clear_list xs (clear_open (79 ∷ 82 ∷ []) word_or refl c q.0 d (omega arith)) (deep_open q.0 refl d) q.1 known (omega arith)
 
       -- a list and the bracket that closes it
-      pub clear-list : {at end l : ℕ} (xs : Conditions) → Clear cells s at → Deep s at l → Spans s at (list_text xs ++ (41 ∷ [])) end → KnownAll cells xs → list_levels xs + l ≤ 17 → Clear cells s end
-      clear-list (one x) c d p known low =
+      pub clear_list : {at end l : ℕ} (xs : Conditions) → Clear cells s at → Deep s at l → Spans s at (list_text xs ++ (41 ∷ [])) end → KnownAll cells xs → list_levels xs + l ≤ 17 → Clear cells s end
+      clear_list (one x) c d p known low =
           let r = spans_split (text x) (41 ∷ []) p in
-          let c₂ = clear-condition x c d r.0 known low (subst (Ends x) (sym (spans_next r.1)) (ends_closed x)) in
-          subst (Clear cells s) (sym r.1.upto) (clear-close 41 (inl refl) c₂ (spans_next r.1))
-      clear-list {at} {end} (more x xs) c d p known low =
+          let c₂ = clear_condition x c d r.0 known low (subst (Ends x) (sym (spans_next r.1)) (ends_closed x)) in
+          subst (Clear cells s) (sym r.1.upto) (clear_close 41 (inl refl) c₂ (spans_next r.1))
+      clear_list {at} {end} (more x xs) c d p known low =
           let r = spans_split (text x) (44 ∷ (list_text xs ++ (41 ∷ []))) (subst (λ w. Spans s at w end) (append_assoc (text x) (44 ∷ list_text xs) (41 ∷ [])) p) in
           let t = spans_split (44 ∷ []) (list_text xs ++ (41 ∷ [])) r.1 in
-          let c₂ = clear-condition x c d r.0 known.0 (omega arith) (subst (Ends x) (sym (spans_next r.1)) (ends_comma x)) in
-          clear-list xs (clear-close 44 (inr refl) c₂ (spans_next r.1)) (deep_flat t.0 refl (deep_flat r.0 (balanced x) d)) t.1 known.1 (omega arith)
+          let c₂ = clear_condition x c d r.0 known.0 (omega arith) (subst (Ends x) (sym (spans_next r.1)) (ends_comma x)) in
+          clear_list xs (clear_close 44 (inr refl) c₂ (spans_next r.1)) (deep_flat t.0 refl (deep_flat r.0 (balanced x) d)) t.1 known.1 (omega arith)

@@ -10,7 +10,7 @@ use Rattle.formulas.proofs.Unique.{ends_condition}
 use Rattle.formulas.proofs.Spans.{next_end}
 use Rattle.formulas.proofs.Firsts.{deep_within, large_within, token_some, text_unique}
 use Rattle.formulas.proofs.Levels.{deep_start}
-use Rattle.formulas.proofs.Clears.{clear_start, clear-condition}
+use Rattle.formulas.proofs.Clears.{clear_start, clear_condition}
 
 pub spans_whole : (s : List ℕ) (c : Condition) → s ≡ text c → Spans s 0 (text c) (length s)
 spans_whole s c e = record { upto = ap length e ∙ omega arith; within = omega arith; said = e ∙ sym (append-nil (text c)) ∙ ap (λ l. text c ++ l) (sym (drop_all (length s) s (omega arith))) }
@@ -22,7 +22,7 @@ pub accepted_not_refused : (cells : ℕ) (s : List ℕ) (c : Condition) (f : Fla
 accepted_not_refused cells s c f k many a r = go f r.here
   where
     clear : Clear cells s (length s)
-    clear = clear-condition many c clear_start (deep_start s) (spans_whole s c a.said) a.known (omega (arith, a.shallow)) (at_end c _ (next_end s (length s) (omega arith)))
+    clear = clear_condition many c clear_start (deep_start s) (spans_whole s c a.said) a.known (omega (arith, a.shallow)) (at_end c _ (next_end s (length s) (omega arith)))
 
     go : (f : Flaw) → Fault cells s f k → ⊥
     go Grammar o = o.none c (drop k s) (sym a.said ∙ sym (take-append-drop k s)) refl

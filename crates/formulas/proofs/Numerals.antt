@@ -95,16 +95,16 @@ undo (d ∷ ds) = let e : 48 + d - 48 ≡ d = omega arith in let r = undo ds in 
 
 -- fewer digits, a smaller number
 pub numeral_prefix : (m n : ℕ) (t u : List ℕ) → ((Digit (next u) → ⊥) ⊎ (n ≡ 0)) → numeral m ++ t ≡ numeral n ++ u → m ≤ n
-numeral_prefix m n t u stop e = ⊎_elim (λ z. omega arith) (λ pm. ⊎_elim (λ z. zero-case z pm) (λ pn. ⊎_elim (λ g. positive-case (omega arith) (omega arith) g) (λ z. zero-case z pm) stop) (cases_eq n 0)) (cases_eq m 0)
+numeral_prefix m n t u stop e = ⊎_elim (λ z. omega arith) (λ pm. ⊎_elim (λ z. zero_case z pm) (λ pn. ⊎_elim (λ g. positive_case (omega arith) (omega arith) g) (λ z. zero_case z pm) stop) (cases_eq n 0)) (cases_eq m 0)
   where
-    zero-case : n ≡ 0 → (m ≡ 0 → ⊥) → m ≤ n
-    zero-case z pm =
+    zero_case : n ≡ 0 → (m ≡ 0 → ⊥) → m ≤ n
+    zero_case z pm =
         let a = numeral_first m t (omega arith) in
         let b : next (numeral n ++ u) ≡ 48 = ap (λ i. next (numeral i ++ u)) z ∙ ap (λ l. next (l ++ u)) numeral_zero in
         absurd (omega (arith, ap next e))
 
-    positive-case : 0 < m → 0 < n → (Digit (next u) → ⊥) → m ≤ n
-    positive-case pm pn g =
+    positive_case : 0 < m → 0 < n → (Digit (next u) → ⊥) → m ≤ n
+    positive_case pm pn g =
         let i = prefix (numeral m) (numeral n) t u (digits_numeral m) (digits_numeral n) g e in
         let d : digits_of 10 n ≡ digits_of 10 m ++ map (λ b. b - 48) i.0 =
         sym (undo (digits_of 10 n)) ∙ ap (map (λ b. b - 48)) (sym (positive n pn) ∙ i.1 ∙ ap (λ l. l ++ i.0) (positive m pm))

@@ -59,15 +59,15 @@ module _ {s : List ℕ} {at : ℕ} (a : AwaitsSide s at) where
 
   -- after the sign of a shift
   module _ (n : ℕ) {end : ℕ} (p : Spans s at (67 ∷ numeral n) end) where
-    cell-next : (u : List ℕ) → next (67 ∷ (numeral n ++ u)) ≡ next (drop at s)
-    cell-next u = sym (ap next p.said)
+    cell_next : (u : List ℕ) → next (67 ∷ (numeral n ++ u)) ≡ next (drop at s)
+    cell_next u = sym (ap next p.said)
 
     whole : (d : Condition) (u : List ℕ) (b : ℕ) → next (drop end s) ≡ b → b < 256 → text d ≡ take (end + 1) s ++ u → text d ≡ take at s ++ (67 ∷ (numeral n ++ (b ∷ u)))
     whole d u b is small e = after_word (text d) (b ∷ u) p (after_word (text d) u (spans_byte s end b is small) e)
 
-    pub digits-plus : next (drop end s) ≡ 43 → AwaitsDigits 0 s (end + 1)
-    digits-plus is = record {
-      comes = λ d u e m. let k = a.comes d (67 ∷ (numeral n ++ (43 ∷ u))) (whole d u 43 is (omega arith) e) (cell-next (43 ∷ u)) in go k.0 k.1 u k.2 k.3;
+    pub digits_plus : next (drop end s) ≡ 43 → AwaitsDigits 0 s (end + 1)
+    digits_plus is = record {
+      comes = λ d u e m. let k = a.comes d (67 ∷ (numeral n ++ (43 ∷ u))) (whole d u 43 is (omega arith) e) (cell_next (43 ∷ u)) in go k.0 k.1 u k.2 k.3;
       room = λ m h.
           let k = a.room (Cell n (Plus m)) in
           let q = spans_join p (spans_byte s end 43 is (omega arith)) in
@@ -89,9 +89,9 @@ module _ {s : List ℕ} {at : ℕ} (a : AwaitsSide s at) where
             sign (Plus m) e = (m, t, omega arith, uncons 43 _ _ e, h.0)
             sign (Minus m) e = absurd (omega (arith, ap next e))
 
-    pub digits-minus : next (drop end s) ≡ 45 → AwaitsDigits 0 s (end + 1)
-    digits-minus is = record {
-      comes = λ d u e m. let k = a.comes d (67 ∷ (numeral n ++ (45 ∷ u))) (whole d u 45 is (omega arith) e) (cell-next (45 ∷ u)) in go k.0 k.1 u k.2 k.3;
+    pub digits_minus : next (drop end s) ≡ 45 → AwaitsDigits 0 s (end + 1)
+    digits_minus is = record {
+      comes = λ d u e m. let k = a.comes d (67 ∷ (numeral n ++ (45 ∷ u))) (whole d u 45 is (omega arith) e) (cell_next (45 ∷ u)) in go k.0 k.1 u k.2 k.3;
       room = λ m h.
           let k = a.room (Cell n (Minus m)) in
           let q = spans_join p (spans_byte s end 45 is (omega arith)) in

@@ -128,9 +128,9 @@ module _ (held : Contents) (e : Extent) (s : Sheet) (h : Holds held e s) where
           g.few_rules,
         )
 
-    pub listing-same : (lengths : List ℕ) → lengths ≡ map length s.lists
+    pub listing_same : (lengths : List ℕ) → lengths ≡ map length s.lists
         → numbered (λ c n. cell_line c (list_in held.numbers c n)) 0 lengths ++ (numbered (λ r rule. rows_line r (field_of held.places rule)) 0 rules ++ formula_lines (length rules) (all_fields s)) ≡ listing_of s
-    listing-same lengths so =
+    listing_same lengths so =
         let b = h.before in
         let numbers_after : List ℤ = replicate (length b.numbers - length (spread s.lists)) (pos 0) in
         let places_after : List ℕ = replicate (length b.places - length (flat_map places_of s.rows)) 0 in

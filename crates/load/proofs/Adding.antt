@@ -65,8 +65,8 @@ module _ (before : Contents) (s : Sheet) (enough : Enough before) (good : Good s
 
   -- a cell's list
   module _ (zs : List ℤ) (g : GoodList zs) (room : e.cells < 64) where
-    lengths-more : (n : ℕ) → n ≡ length zs → set c.lengths e.cells n ≡ (stored before (with_list s zs)).lengths
-    lengths-more n i =
+    lengths_more : (n : ℕ) → n ≡ length zs → set c.lengths e.cells n ≡ (stored before (with_list s zs)).lengths
+    lengths_more n i =
         let l = length-map s.lists length in
         (λ k. set (is k).lengths e.cells (i k))
         ∙ filled_more 0 (length before.lengths) (map length s.lists) (length zs) e.cells (cells_are ∙ sym l) (omega (arith, cells_are, l, enough.lengths))
@@ -86,10 +86,10 @@ module _ (before : Contents) (s : Sheet) (enough : Enough before) (good : Good s
         block (pos 0) n xs (filled (pos 0) 64 zs) c.numbers part from (ap (λ (x : Contents). x.numbers) is) here k (i ∙ sym ly) new (omega (arith, fits, ly))
         ∙ ap (filled (pos 0) n) (sym (joined_push (filled (pos 0) 64) s.lists zs))
 
-    pub list-stored : (n from k : ℕ) (part : List ℤ) → n ≡ length zs → from ≡ 64 * e.cells → k ≡ 64 → part ≡ zs ++ drop (length zs) (take k (drop from c.numbers))
+    pub list_stored : (n from k : ℕ) (part : List ℤ) → n ≡ length zs → from ≡ 64 * e.cells → k ≡ 64 → part ≡ zs ++ drop (length zs) (take k (drop from c.numbers))
         → record { lengths = set c.lengths e.cells n; numbers = put_mid from k c.numbers part; rules = c.rules; places = c.places; formulas = c.formulas; nodes = c.nodes } ≡ stored before (with_list s zs)
-    list-stored n from k part i f j p = λ x. record {
-      lengths = lengths-more n i x;
+    list_stored n from k part i f j p = λ x. record {
+      lengths = lengths_more n i x;
       numbers = numbers_more from k part f j p x;
       rules = (is x).rules;
       places = (is x).places;
@@ -97,40 +97,40 @@ module _ (before : Contents) (s : Sheet) (enough : Enough before) (good : Good s
       nodes = (is x).nodes;
     }
 
-    pub list-extent : record { cells = e.cells + 1; rules = e.rules; places = e.places; formulas = e.formulas; nodes = e.nodes } ≡ extent_of (with_list s zs)
-    list-extent =
+    pub list_extent : record { cells = e.cells + 1; rules = e.rules; places = e.places; formulas = e.formulas; nodes = e.nodes } ≡ extent_of (with_list s zs)
+    list_extent =
         let one : e.cells + 1 ≡ length (s.lists ++ (zs ∷ [])) = ap (λ n. n + 1) cells_are ∙ sym (length_push s.lists zs) in
         λ x. record { cells = one x; rules = (at x).rules; places = (at x).places; formulas = (at x).formulas; nodes = (at x).nodes }
 
   -- a rule by rows
   module _ (x : RowsField) (room : e.rules < 64) (fits : e.places + length (places_of x) ≤ 32768) where
-    rules-added : (rule : RowsRule) → rule ≡ stored_rule_of e.places x → set c.rules e.rules rule ≡ (stored before (with_rows s x)).rules
-    rules-added rule i =
+    rules_added : (rule : RowsRule) → rule ≡ stored_rule_of e.places x → set c.rules e.rules rule ≡ (stored before (with_rows s x)).rules
+    rules_added rule i =
         let l = length_rules 0 s.rows in
         let start : stored_rule_of e.places x ≡ stored_rule_of (0 + length (flat_map places_of s.rows)) x = ap (λ n. stored_rule_of n x) (places_are ∙ sym (native.Mathlib.Nat.zero-add (length (flat_map places_of s.rows)))) in
         (λ k. set (is k).rules e.rules ((i ∙ start) k))
         ∙ filled_more zero_rule (length before.rules) (rules_of 0 s.rows) (stored_rule_of (0 + length (flat_map places_of s.rows)) x) e.rules (rules_are ∙ sym l) (omega (arith, rules_are, l, enough.rules))
         ∙ ap (filled zero_rule (length before.rules)) (sym (rules_more 0 s.rows x))
 
-    places-added : (part : List ℕ) → part ≡ places_of x ++ drop (length (places_of x)) (take (length c.places - e.places) (drop e.places c.places))
+    places_added : (part : List ℕ) → part ≡ places_of x ++ drop (length (places_of x)) (take (length c.places - e.places) (drop e.places c.places))
         → put_mid e.places (length c.places - e.places) c.places part ≡ (stored before (with_rows s x)).places
-    places-added part p =
+    places_added part p =
         rest_block 0 (length before.places) (flat_map places_of s.rows) (places_of x) c.places part e.places (ap (λ (y : Contents). y.places) is) places_are p (omega (arith, places_are, fits, enough.places))
         ∙ ap (filled 0 (length before.places)) (sym (joined_push places_of s.rows x))
 
-    pub rows-stored : (rule : RowsRule) (part : List ℕ) → rule ≡ stored_rule_of e.places x → part ≡ places_of x ++ drop (length (places_of x)) (take (length c.places - e.places) (drop e.places c.places))
+    pub rows_stored : (rule : RowsRule) (part : List ℕ) → rule ≡ stored_rule_of e.places x → part ≡ places_of x ++ drop (length (places_of x)) (take (length c.places - e.places) (drop e.places c.places))
         → record { lengths = c.lengths; numbers = c.numbers; rules = set c.rules e.rules rule; places = put_mid e.places (length c.places - e.places) c.places part; formulas = c.formulas; nodes = c.nodes } ≡ stored before (with_rows s x)
-    rows-stored rule part i p = λ y. record {
+    rows_stored rule part i p = λ y. record {
       lengths = (is y).lengths;
       numbers = (is y).numbers;
-      rules = rules-added rule i y;
-      places = places-added part p y;
+      rules = rules_added rule i y;
+      places = places_added part p y;
       formulas = (is y).formulas;
       nodes = (is y).nodes;
     }
 
-    pub rows-extent : (n : ℕ) → n ≡ e.places + length (places_of x) → record { cells = e.cells; rules = e.rules + 1; places = n; formulas = e.formulas; nodes = e.nodes } ≡ extent_of (with_rows s x)
-    rows-extent n i =
+    pub rows_extent : (n : ℕ) → n ≡ e.places + length (places_of x) → record { cells = e.cells; rules = e.rules + 1; places = n; formulas = e.formulas; nodes = e.nodes } ≡ extent_of (with_rows s x)
+    rows_extent n i =
         let one : e.rules + 1 ≡ length (s.rows ++ (x ∷ [])) = ap (λ k. k + 1) rules_are ∙ sym (length_push s.rows x) in
         let more : n ≡ length (flat_map places_of (s.rows ++ (x ∷ []))) =
         i ∙ ap (λ k. k + length (places_of x)) places_are ∙ sym (length-append (flat_map places_of s.rows) (places_of x)) ∙ ap length (sym (joined_push places_of s.rows x)) in
@@ -141,36 +141,36 @@ module _ (before : Contents) (s : Sheet) (enough : Enough before) (good : Good s
     laid : layout e.nodes d ≡ layout (0 + length (nodes_of 0 s.formulas)) d
     laid = ap (λ n. layout n d) (nodes_are ∙ sym (native.Mathlib.Nat.zero-add (length (nodes_of 0 s.formulas))))
 
-    formulas-added : (f : Formula) → f ≡ formula_of e.nodes d → set c.formulas e.formulas f ≡ (stored before (with_formula s d)).formulas
-    formulas-added f i =
+    formulas_added : (f : Formula) → f ≡ formula_of e.nodes d → set c.formulas e.formulas f ≡ (stored before (with_formula s d)).formulas
+    formulas_added f i =
         let l = length_formulas 0 s.formulas in
         let start : formula_of e.nodes d ≡ formula_of (0 + length (nodes_of 0 s.formulas)) d = ap (λ n. formula_of n d) (nodes_are ∙ sym (native.Mathlib.Nat.zero-add (length (nodes_of 0 s.formulas)))) in
         (λ k. set (is k).formulas e.formulas ((i ∙ start) k))
         ∙ filled_more zero_formula (length before.formulas) (formulas_of 0 s.formulas) (formula_of (0 + length (nodes_of 0 s.formulas)) d) e.formulas (formulas_are ∙ sym l) (omega (arith, formulas_are, l, enough.formulas))
         ∙ ap (filled zero_formula (length before.formulas)) (sym (formulas_more 0 s.formulas d))
 
-    nodes-added : (part : List Node) → part ≡ take e.nodes (take 32768 c.nodes) ++ (layout e.nodes d ++ drop (e.nodes + length (layout e.nodes d)) (take 32768 c.nodes))
+    nodes_added : (part : List Node) → part ≡ take e.nodes (take 32768 c.nodes) ++ (layout e.nodes d ++ drop (e.nodes + length (layout e.nodes d)) (take 32768 c.nodes))
         → part ++ drop 32768 c.nodes ≡ (stored before (with_formula s d)).nodes
-    nodes-added part p =
+    nodes_added part p =
         front_block Free (length before.nodes) (nodes_of 0 s.formulas) (layout e.nodes d) c.nodes part e.nodes (ap (λ (y : Contents). y.nodes) is) nodes_are 32768 p
         (omega (arith, nodes_are, fits, size_layout e.nodes d)) enough.nodes
         ∙ ap (λ l. filled Free (length before.nodes) (nodes_of 0 s.formulas ++ l)) laid
         ∙ ap (filled Free (length before.nodes)) (sym (nodes_more 0 s.formulas d))
 
-    pub formula-stored : (f : Formula) (part : List Node) → f ≡ formula_of e.nodes d
+    pub formula_stored : (f : Formula) (part : List Node) → f ≡ formula_of e.nodes d
         → part ≡ take e.nodes (take 32768 c.nodes) ++ (layout e.nodes d ++ drop (e.nodes + length (layout e.nodes d)) (take 32768 c.nodes))
         → record { lengths = c.lengths; numbers = c.numbers; rules = c.rules; places = c.places; formulas = set c.formulas e.formulas f; nodes = part ++ drop 32768 c.nodes } ≡ stored before (with_formula s d)
-    formula-stored f part i p = λ y. record {
+    formula_stored f part i p = λ y. record {
       lengths = (is y).lengths;
       numbers = (is y).numbers;
       rules = (is y).rules;
       places = (is y).places;
-      formulas = formulas-added f i y;
-      nodes = nodes-added part p y;
+      formulas = formulas_added f i y;
+      nodes = nodes_added part p y;
     }
 
-    pub formula-extent : (n : ℕ) → n ≡ e.nodes + size d → record { cells = e.cells; rules = e.rules; places = e.places; formulas = e.formulas + 1; nodes = n } ≡ extent_of (with_formula s d)
-    formula-extent n i =
+    pub formula_extent : (n : ℕ) → n ≡ e.nodes + size d → record { cells = e.cells; rules = e.rules; places = e.places; formulas = e.formulas + 1; nodes = n } ≡ extent_of (with_formula s d)
+    formula_extent n i =
         let one : e.formulas + 1 ≡ length (s.formulas ++ (d ∷ [])) = ap (λ k. k + 1) formulas_are ∙ sym (length_push s.formulas d) in
         let more : n ≡ length (nodes_of 0 (s.formulas ++ (d ∷ []))) = i ∙ ap (λ k. k + size d) nodes_are ∙ sym (nodes_count s.formulas d) in
         λ y. record { cells = (at y).cells; rules = (at y).rules; places = (at y).places; formulas = one y; nodes = more y }

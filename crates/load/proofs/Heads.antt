@@ -70,20 +70,20 @@ module _ (s : Sheet) (e : Extent) (is : e ≡ extent_of s) where
   full_filled End n f = absurd (n refl)
 
   module _ (file : List ℕ) (at : ℕ) where
-    wrong-at : (bs : List ℕ) (f : LoadFault) → drop at file ≡ bs → Wrong s at bs f → Wrong s at (drop at file) f
-    wrong-at bs f i w = subst (λ l. Wrong s at l f) (sym i) w
+    wrong_at : (bs : List ℕ) (f : LoadFault) → drop at file ≡ bs → Wrong s at bs f → Wrong s at (drop at file) f
+    wrong_at bs f i w = subst (λ l. Wrong s at l f) (sym i) w
 
     pub past : length file ≤ at → Wrong s at (drop at file) (Cut at)
-    past h = wrong-at [] (Cut at) (drop_all at file h) no_end
+    past h = wrong_at [] (Cut at) (drop_all at file h) no_end
 
-    pub no-tag : at < length file → ((t : Tag) → get_or file at 0 ≢ tag_byte t) → Wrong s at (drop at file) (Misplaced at)
-    no-tag h n = wrong-at _ _ (first file at h) (bad_tag (no_fits (get_or file at 0) n))
+    pub no_tag : at < length file → ((t : Tag) → get_or file at 0 ≢ tag_byte t) → Wrong s at (drop at file) (Misplaced at)
+    no_tag h n = wrong_at _ _ (first file at h) (bad_tag (no_fits (get_or file at 0) n))
 
     pub misplaced : (t : Tag) → at < length file → get_or file at 0 ≡ tag_byte t → (Comes t e → ⊥) → Wrong s at (drop at file) (Misplaced at)
-    misplaced t h b n = wrong-at _ _ (first file at h) (bad_tag (λ f. n (fits_any t (get_or file at 0) b f)))
+    misplaced t h b n = wrong_at _ _ (first file at h) (bad_tag (λ f. n (fits_any t (get_or file at 0) b f)))
 
     pub cut : (t : Tag) → at < length file → get_or file at 0 ≡ tag_byte t → Comes t e → length file < at + 3 → Wrong s at (drop at file) (Cut at)
-    cut t h b c short = wrong-at _ _ (first file at h) (cut_head (subst (Fits s) (sym b) (comes_fits t c)) (omega (arith, length-drop (at + 1) file)))
+    cut t h b c short = wrong_at _ _ (first file at h) (cut_head (subst (Fits s) (sym b) (comes_fits t c)) (omega (arith, length-drop (at + 1) file)))
 
     module _ (t : Tag) (b : get_or file at 0 ≡ tag_byte t) (room : at + 3 ≤ length file) where
       abbrev high : ℕ
@@ -96,13 +96,13 @@ module _ (s : Sheet) (e : Extent) (is : e ≡ extent_of s) where
       bytes = three file at room ∙ ap (λ x. x ∷ high ∷ low ∷ drop (at + 3) file) b
 
       pub long : tag_byte t ≡ 4 → high * 256 + low ≢ 0 → Wrong s at (drop at file) (Misplaced at)
-      long i n = wrong-at _ _ (bytes ∙ ap (λ x. x ∷ high ∷ low ∷ drop (at + 3) file) i) (long_end n)
+      long i n = wrong_at _ _ (bytes ∙ ap (λ x. x ∷ high ∷ low ∷ drop (at + 3) file) i) (long_end n)
 
       pub beyond : tag_byte t ≡ 4 → high * 256 + low ≡ 0 → at + 3 < length file → Wrong s at (drop at file) (Misplaced (at + 3))
       beyond i z more =
           let h : high ≡ 0 = omega arith in
           let l : low ≡ 0 = omega arith in
-          wrong-at _ _ (bytes ∙ (λ k. i k ∷ h k ∷ l k ∷ first file (at + 3) more k)) after_end
+          wrong_at _ _ (bytes ∙ (λ k. i k ∷ h k ∷ l k ∷ first file (at + 3) more k)) after_end
 
       pub ended : tag_byte t ≡ 4 → high * 256 + low ≡ 0 → length file ≡ at + 3 → drop at file ≡ 4 ∷ 0 ∷ 0 ∷ []
       ended i z last =
@@ -111,10 +111,10 @@ module _ (s : Sheet) (e : Extent) (is : e ≡ extent_of s) where
           bytes ∙ (λ k. i k ∷ h k ∷ l k ∷ drop_all (at + 3) file (omega arith) k)
 
       pub short : tag_byte t ≢ 4 → Comes t e → length file < at + 3 + (high * 256 + low) → Wrong s at (drop at file) (Cut at)
-      short n c less = wrong-at _ _ bytes (cut_content (comes_fits t c) n (omega (arith, length-drop (at + 3) file)))
+      short n c less = wrong_at _ _ bytes (cut_content (comes_fits t c) n (omega (arith, length-drop (at + 3) file)))
 
       pub surplus : tag_byte t ≢ 4 → Comes t e → at + 3 + (high * 256 + low) ≤ length file → Filled t e → Wrong s at (drop at file) (Many at)
-      surplus n c fits f = wrong-at _ _ bytes (too_many (comes_fits t c) n (omega (arith, length-drop (at + 3) file)) (filled_full t f))
+      surplus n c fits f = wrong_at _ _ bytes (too_many (comes_fits t c) n (omega (arith, length-drop (at + 3) file)) (filled_full t f))
 
       pub content : tag_byte t ≢ 4 → Comes t e → at + 3 + (high * 256 + low) ≤ length file → (Filled t e → ⊥) → Content s (drop at file) (tag_byte t) (high * 256 + low)
       content n c fits f = record {

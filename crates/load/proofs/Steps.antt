@@ -95,8 +95,8 @@ module _ (file : List ℕ) (at : ℕ) (s : Sheet) (b : Begun file at s) (tag siz
       }
 
   module _ (before after : Contents) (e : Extent) where
-    pub advance-list : tag ≡ 1 → AddsList part before s after e → Advanced file before at after (record { at = at + 3 + size; extent = e })
-    advance-list t k =
+    pub advance_list : tag ≡ 1 → AddsList part before s after e → Advanced file before at after (record { at = at + 3 + size; extent = e })
+    advance_list t k =
         let p = fits_cell s tag t h.fits in
         record {
           sheet = _;
@@ -106,8 +106,8 @@ module _ (file : List ℕ) (at : ℕ) (s : Sheet) (b : Begun file at s) (tag siz
           further = omega arith;
         }
 
-    pub advance-rows : tag ≡ 2 → AddsRows part before s after e → Advanced file before at after (record { at = at + 3 + size; extent = e })
-    advance-rows t k = record {
+    pub advance_rows : tag ≡ 2 → AddsRows part before s after e → Advanced file before at after (record { at = at + 3 + size; extent = e })
+    advance_rows t k = record {
       sheet = _;
       begun = advance _ _ (adds_rows k.rule (fits_rows s tag t h.fits) (few_rules s tag b.good (λ i. omega (arith, i, t)) h.room) k.good) (sym t) (sym k.said);
       stores = k.stores;
@@ -115,8 +115,8 @@ module _ (file : List ℕ) (at : ℕ) (s : Sheet) (b : Begun file at s) (tag siz
       further = omega arith;
     }
 
-    pub advance-formula : tag ≡ 3 → AddsFormula part before s after e → Advanced file before at after (record { at = at + 3 + size; extent = e })
-    advance-formula t k = record {
+    pub advance_formula : tag ≡ 3 → AddsFormula part before s after e → Advanced file before at after (record { at = at + 3 + size; extent = e })
+    advance_formula t k = record {
       sheet = _;
       begun = advance _ _ (adds_formula k.formula (few_rules s tag b.good (λ i. omega (arith, i, t)) h.room) k.good) (sym t) (sym k.said);
       stores = k.stores;

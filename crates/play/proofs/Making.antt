@@ -196,7 +196,7 @@ module _ {B C : Type 0} (meaning : B → BookMeaning) (k : Machine C) (s t : Ses
       → Makes the_sheet (StepDone k the_sheet) h (lasting_of s) b a (lasting_of t) × Holds s.lengths.now (did a ∷ h) t.table
   made_fit h b a r {W} {W'} {F} {F'} {L} {L'} is holds call ans w l f ws ls fs aw al af room c =
       let n = (said (to_fit r)).number in
-      let ze : sizes_of W L F ≡ sizes b.buffers = sizes-same w l f in
+      let ze : sizes_of W L F ≡ sizes b.buffers = sizes_same w l f in
       let j : Judged the_sheet (sizes b.buffers) b.call n = subst₂ (λ (x : Sizes) (y : Call). Judged the_sheet x y n) ze (sym is) c.judged in
       elim (cases_eq n 0) [
         | inl e ↦
@@ -222,5 +222,5 @@ module _ {B C : Type 0} (meaning : B → BookMeaning) (k : Machine C) (s t : Ses
             with_holds holds m (λ v. subst (λ (x : Session B C). Holds s.lengths.now (did a ∷ h) x.table) (sym q.0) (holds_same (did a) n num ne holds v))
       ]
     where
-      sizes-same : {w w' l l' f f' : ℕ} → w ≡ w' → l ≡ l' → f ≡ f' → ◌≡◌ {A = Sizes} (record { work = w; log = l; filling = f }) (record { work = w'; log = l'; filling = f' })
-      sizes-same a b c = cc
+      sizes_same : {w w' l l' f f' : ℕ} → w ≡ w' → l ≡ l' → f ≡ f' → ◌≡◌ {A = Sizes} (record { work = w; log = l; filling = f }) (record { work = w'; log = l'; filling = f' })
+      sizes_same a b c = cc

@@ -24,21 +24,21 @@ module _ {S : Type 0} (s : Sheet) (F : List Did → S → Step → Step → Valu
     here : get_or entry i x ≡ x
     here = sym (ap (λ (xs : List Step). get_or xs 0 x) (sym (drop_more now i x lt) ∙ same ∙ drop_more entry i x (omega arith))) ∙ sym item
 
-    pub drop-next : drop (i + 1) (set now i y) ≡ drop (i + 1) entry
-    drop-next = drop-set-lt (i + 1) now i y (omega arith) ∙ sym (drop-drop 1 i now) ∙ ap (drop 1) same ∙ drop-drop 1 i entry
+    pub drop_next : drop (i + 1) (set now i y) ≡ drop (i + 1) entry
+    drop_next = drop-set-lt (i + 1) now i y (omega arith) ∙ sym (drop-drop 1 i now) ∙ ap (drop 1) same ∙ drop-drop 1 i entry
 
     take_next : take (i + 1) entry ≡ take i entry ++ x ∷ []
     take_next = take_more entry i x (omega arith) ∙ ap (λ (z : Step). take i entry ++ z ∷ []) here
 
-    pub plays-more : {h : List Did} {x₀ u v : S} → Makes s F h u x y v → MorePlays x₀ (take i entry) (take i now) h u → MorePlays x₀ (take (i + 1) entry) (take (i + 1) (set now i y)) (did y ∷ h) v
-    plays-more {x₀ = x₀} d k before after w p =
+    pub plays_more : {h : List Did} {x₀ u v : S} → Makes s F h u x y v → MorePlays x₀ (take i entry) (take i now) h u → MorePlays x₀ (take (i + 1) entry) (take (i + 1) (set now i y)) (did y ∷ h) v
+    plays_more {x₀ = x₀} d k before after w p =
         subst₂ (λ (xs ys : List Step). Plays s F [] x₀ xs ys w)
         (sym (ap (λ (xs : List Step). xs ++ before) take_next ∙ append_assoc (take i entry) (x ∷ []) before))
         (sym (ap (λ (xs : List Step). xs ++ after) (take_more_set now i y lt) ∙ append_assoc (take i now) (y ∷ []) after))
         (k (x ∷ before) (y ∷ after) w (more d p))
 
-    pub latest-more : {h : List Did} → latest [] (take i now) ≡ h → latest [] (take (i + 1) (set now i y)) ≡ did y ∷ h
-    latest-more e = ap (latest []) (take_more_set now i y lt) ∙ latest_concat [] (take i now) (y ∷ []) ∙ ap (λ (h : List Did). did y ∷ h) e
+    pub latest_more : {h : List Did} → latest [] (take i now) ≡ h → latest [] (take (i + 1) (set now i y)) ≡ did y ∷ h
+    latest_more e = ap (latest []) (take_more_set now i y lt) ∙ latest_concat [] (take i now) (y ∷ []) ∙ ap (λ (h : List Did). did y ∷ h) e
 
   pub plays_end : {h : List Did} {x₀ x : S} (entry now : List Step) (i : ℕ) → length entry ≤ i → length now ≡ length entry → MorePlays x₀ (take i entry) (take i now) h x → Plays s F [] x₀ entry now x
   plays_end {x₀ = x₀} {x} entry now i le long k =

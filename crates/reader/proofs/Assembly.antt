@@ -14,7 +14,7 @@ use Rattle.formulas.specs.Reading.{Spans, Clear, Deep, Awaits, AwaitsList, Follo
 use Rattle.formulas.proofs.Spans.{spans_byte, spans_join, spans_split, spans_take}
 use Rattle.formulas.proofs.Awaits.{await_not, await_all, await_any, list_next, word_outside, too_deep, after_condition}
 use Rattle.formulas.proofs.Firsts.{first_grammar, first_level}
-use Rattle.formulas.proofs.Clears.{Plain, clear-bytes, clear-condition}
+use Rattle.formulas.proofs.Clears.{Plain, clear_bytes, clear_condition}
 use Rattle.formulas.proofs.Layouts.{size_layout, size_list, stored_set, stored_more, stored_length}
 use Rattle.reader.specs.declared.conditions.Join.{Join}
 use Rattle.reader.specs.declared.conditions.Join.TheVariants.{All, Any}
@@ -105,18 +105,18 @@ not_opened {o} {cells} {s} {at} {level} e w z y many a c d plain flat spells kin
         let cut : take m.seen (w ++ (40 ∷ [])) ≡ take m.seen w = take-append-le m.seen w (40 ∷ []) short in
         subst (λ f. First cells s f e.offset) (sym m.flaw)
         (first_grammar (word_outside (w ++ (40 ∷ [])) z y a spells kind m.more m.spells m.wrong)
-        (clear-bytes many (take m.seen w) (plain_take m.seen w plain) c (subst (λ v. Spans s at v e.offset) cut m.spells)))
+        (clear_bytes many (take m.seen w) (plain_take m.seen w plain) c (subst (λ v. Spans s at v e.offset) cut m.spells)))
 
     deep : (e.flaw ≡ Level) × Spans s at (w ++ (40 ∷ [])) e.offset × (level ≡ 16) → FirstOf cells s e
     deep m =
         subst (λ f. First cells s f e.offset) (sym m.0)
-        (first_level (too_deep w z y a spells flat m.1 (subst (Deep s at) m.2 d)) (clear-bytes many w plain c (spans_split w (40 ∷ []) m.1).0))
+        (first_level (too_deep w z y a spells flat m.1 (subst (Deep s at) m.2 d)) (clear_bytes many w plain c (spans_split w (40 ∷ []) m.1).0))
 
 -- neither a comma nor a bracket after a condition
 pub not_followed : {b : Bool} {o : List Bool} {cells level : ℕ} {s : List ℕ} {at n used end : ℕ} {before after : List Node} → cells ≤ 1000000 → Awaits (b ∷ o) (take at s) → Clear cells s at → Deep s at level
     → (r : ReadOne s at cells level before n after used end) → next (drop end s) ≢ 41 → (b ≡ true → next (drop end s) ≢ 44) → First cells s Grammar end
 not_followed {b} {o} {cells} {level} {s} {at} {n} {used} {end} many a c d r f g =
-    first_grammar (after_condition r.is a r.spans r.ends wrong) (clear-condition many r.is c d r.spans r.known r.shallow r.ends)
+    first_grammar (after_condition r.is a r.spans r.ends wrong) (clear_condition many r.is c d r.spans r.known r.shallow r.ends)
   where
     wrong : (t : List ℕ) → Follows (b ∷ o) t → next t ≢ next (drop end s)
     wrong t h e = go b t h g e

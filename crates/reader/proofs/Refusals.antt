@@ -8,7 +8,7 @@ use Rattle.formulas.specs.Faults.{next, Digit, NoDigitBefore, Outside}
 use Rattle.formulas.specs.Reading.{Spans, Clear}
 use Rattle.formulas.proofs.Numerals.{numeral_zero, numeral_next, numeral_first, numeral_prefix}
 use Rattle.formulas.proofs.Spans.{spans_byte, spans_join, spans_split}
-use Rattle.formulas.proofs.Clears.{clear-digits, clear_letter, clear_sign, last_digit}
+use Rattle.formulas.proofs.Clears.{clear_digits, clear_letter, clear_sign, last_digit}
 use Rattle.formulas.proofs.Firsts.{first_grammar}
 use Rattle.reader.specs.Read.{outside, FirstOf}
 
@@ -70,7 +70,7 @@ sign_clear n b p e is c = let l = last_digit n (spans_split (67 ∷ []) (numeral
 -- a cell that is there
 pub cell_clear : {cells : ℕ} {s : List ℕ} {at after : ℕ} (n : ℕ) → cells ≤ 1000000 → next (drop at s) ≡ 67 → Spans s (at + 1) (numeral n) after → n < cells → (Digit (next (drop after s)) → ⊥) ⊎ (n ≡ 0) → Clear cells s at → Clear cells s after
 cell_clear {cells} {s} {at} {after} n many e p known stop c =
-    clear-digits p (omega arith) stop (clear_letter c e (λ m t x. omega (arith, numeral_prefix m n t (drop after s) stop (sym x ∙ p.said))))
+    clear_digits p (omega arith) stop (clear_letter c e (λ m t x. omega (arith, numeral_prefix m n t (drop after s) stop (sym x ∙ p.said))))
 
 -- what a call returns, handed on
 pub through : {T E : Type 0} (r : Result T E) (P P' : T → Type 0) (Q : E → Type 0) → ((x : T) → P x → P' x) → MatchResult r P Q → MatchResult r P' Q

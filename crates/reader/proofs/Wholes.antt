@@ -11,7 +11,7 @@ use Rattle.formulas.specs.Layout.{layout, stored}
 use Rattle.formulas.specs.Reading.{Clear, Follows, ends}
 use Rattle.formulas.proofs.Awaits.{await_start, after_condition}
 use Rattle.formulas.proofs.Levels.{deep_start}
-use Rattle.formulas.proofs.Clears.{clear_start, clear-condition}
+use Rattle.formulas.proofs.Clears.{clear_start, clear_condition}
 use Rattle.formulas.proofs.Firsts.{first_grammar, first_cells, first_unique}
 use Rattle.formulas.proofs.Layouts.{size_layout}
 use Rattle.formulas.proofs.Exact.{accepted_not_refused}
@@ -29,7 +29,7 @@ part_stored l new n m h e =
 
 module _ {cells n used end : ℕ} {s : List ℕ} {before after : List Node} (many : cells ≤ 1000000) (r : ReadOne s 0 cells 1 before n after used end) where
   clear : Clear cells s end
-  clear = clear-condition many r.is clear_start (deep_start s) r.spans r.known r.shallow r.ends
+  clear = clear_condition many r.is clear_start (deep_start s) r.spans r.known r.shallow r.ends
 
   -- something stands behind it
   pub junk_behind : next (drop end s) < 256 → First cells s Grammar end
@@ -60,14 +60,14 @@ module _ {cells n used end : ℕ} {s : List ℕ} {before after : List Node} (man
           none : length (cells_of r.is) ≡ 0
           none = ⊎_elim (λ big. absurd (omega (arith, held.many big))) (λ few. omega (arith, (held.few few).0)) (cases_lt 4 (length (cells_of r.is)))
 
-      pub many-cells : 4 < seen.count → First cells s Cells 0
-      many-cells big = first_cells (record { first = refl; formula = r.is; said = said; wrong = inr more }) (subst (Clear cells s) end_is clear)
+      pub many_cells : 4 < seen.count → First cells s Cells 0
+      many_cells big = first_cells (record { first = refl; formula = r.is; said = said; wrong = inr more }) (subst (Clear cells s) end_is clear)
         where
           more : 4 < length (cells_of r.is)
           more = ⊎_elim (λ x. x) (λ few. absurd (omega (arith, (held.few few).0))) (cases_lt 4 (length (cells_of r.is)))
 
-      pub formula-read : seen.count ≢ 0 → seen.count ≤ 4 → ReadFormula cells s before n after used (record { root = used - 1; width = seen.count; cells = seen.cells })
-      formula-read some few =
+      pub formula_read : seen.count ≢ 0 → seen.count ≤ 4 → ReadFormula cells s before n after used (record { root = used - 1; width = seen.count; cells = seen.cells })
+      formula_read some few =
           let short : length (cells_of r.is) ≤ 4 = ⊎_elim (λ x. absurd (omega (arith, held.many x))) (λ x. x) (cases_lt 4 (length (cells_of r.is))) in
           let k = held.few short in
           record {

@@ -9,7 +9,7 @@ use Rattle.rows.specs.declared.rule.RowsRule.{RowsRule}
 use Rattle.rows.specs.Rows.{row_at, stores, permits_of, rule_of}
 use Rattle.rows.specs.RowsLaws.{width_of, cell_of}
 use Rattle.rows.specs.Support.{Allowed, Allows, Within, Same, Unstored}
-use Rattle.rows.proofs.Rows.{row_wide, row_place, stores_decides, front, front-wide, front-place, front-is, same_front, front_same}
+use Rattle.rows.proofs.Rows.{row_wide, row_place, stores_decides, front, front_wide, front_place, front_is, same_front, front_same}
 
 -- ---- the search for a row that is not stored
 module _ (bytes : List ℕ) (rule : RowsRule) (masks : List ℕ) where
@@ -20,8 +20,8 @@ module _ (bytes : List ℕ) (rule : RowsRule) (masks : List ℕ) where
   pub last_yes : (places : List ℕ) (n : ℕ) → n ≡ rule.width → (Found places → ⊥) → Unstored bytes rule masks places n
   last_yes places n end none = record {
     row = front bytes rule places;
-    wide = front-wide bytes rule places;
-    begins = λ k h. front-place bytes rule places k (omega arith);
+    wide = front_wide bytes rule places;
+    begins = λ k h. front_place bytes rule places k (omega arith);
     absent = ⊎_elim
         (λ t. let j = (stores_decides bytes rule (front bytes rule places)).0 t in absurd (none (j.0, j.1, front_same bytes rule places j.0 j.2)))
         (λ f. f)
@@ -31,13 +31,13 @@ module _ (bytes : List ℕ) (rule : RowsRule) (masks : List ℕ) where
 
   pub last_no : (places : List ℕ) (n : ℕ) → n ≡ rule.width → Found places → Unstored bytes rule masks places n → ⊥
   last_no places n end j w =
-      let is : w.row ≡ front bytes rule places = front-is bytes rule places w.row w.wide (λ k h. w.begins k (omega arith)) in
+      let is : w.row ≡ front bytes rule places = front_is bytes rule places w.row w.wide (λ k h. w.begins k (omega arith)) in
       both_ways _ w.absent ((stores_decides bytes rule w.row).1 (j.0, j.1, same_front bytes rule places j.0 j.2 ∙ sym is))
 
   -- place p is chosen at position n
   module _ (places : List ℕ) (n p : ℕ) (lt : n < length places) where
-    pub step-yes : Allowed masks n p → Unstored bytes rule masks (set places n p) (n + 1) → Unstored bytes rule masks places n
-    step-yes allowed w = record {
+    pub step_yes : Allowed masks n p → Unstored bytes rule masks (set places n p) (n + 1) → Unstored bytes rule masks places n
+    step_yes allowed w = record {
       row = w.row;
       wide = w.wide;
       begins = λ k h. w.begins k (omega arith) ∙ get_or-set_other places n k p 0 (omega arith);
@@ -50,8 +50,8 @@ module _ (bytes : List ℕ) (rule : RowsRule) (masks : List ℕ) where
           (cases_eq k n);
     }
 
-    pub step-no : (Unstored bytes rule masks (set places n p) (n + 1) → ⊥) → (w : Unstored bytes rule masks places n) → get_or w.row n 0 ≡ p → ⊥
-    step-no none w is = none (record {
+    pub step_no : (Unstored bytes rule masks (set places n p) (n + 1) → ⊥) → (w : Unstored bytes rule masks places n) → get_or w.row n 0 ≡ p → ⊥
+    step_no none w is = none (record {
       row = w.row;
       wide = w.wide;
       begins = λ k h. ⊎_elim

@@ -9,7 +9,7 @@ use Rattle.rows.specs.declared.rule.RowsRule.{RowsRule}
 use Rattle.rows.specs.Rows.{place_at, stores}
 use Rattle.rows.specs.Support.{Allowed, Unstored, rows_within}
 use Rattle.rows.proofs.Rows.{stores_decides, front, front_same, same_front}
-use Rattle.rows.proofs.Finding.{last_yes, step-yes}
+use Rattle.rows.proofs.Finding.{last_yes, step_yes}
 
 -- ---- how many of the first n numbers pass a test
 abbrev bit : Bool → ℕ
@@ -115,7 +115,7 @@ module _ (bytes : List ℕ) (rule : RowsRule) (masks : List ℕ) where
   unstored_or (suc d) n places b end wide begins =
       shared b (λ j. place_at bytes rule j n) rule.count (get_or masks n 0) (ways d (n + 1))
       (λ v low is. ⊎_elim
-      (λ u. inl (step-yes bytes rule masks places n v (omega arith) (low, is) u))
+      (λ u. inl (step_yes bytes rule masks places n v (omega arith) (low, is) u))
       inr
       (unstored_or d (n + 1) (set places n v) (λ j. b j && eqb (place_at bytes rule j n) v) (omega arith) (omega (arith, length-set places n v))
       (λ j same. and_from (b j) (eqb (place_at bytes rule j n) v)

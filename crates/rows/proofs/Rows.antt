@@ -29,20 +29,20 @@ module _ (bytes : List ℕ) (rule : RowsRule) where
     abbrev pub front : List ℕ
     front = map (λ k. get_or places k 0) (range_with_len 0 rule.width)
 
-    pub front-wide : length front ≡ rule.width
-    front-wide = length-map-range_with_len (λ k. get_or places k 0) 0 rule.width
+    pub front_wide : length front ≡ rule.width
+    front_wide = length-map-range_with_len (λ k. get_or places k 0) 0 rule.width
 
-    pub front-place : (k : ℕ) → k < rule.width → get_or front k 0 ≡ get_or places k 0
-    front-place k h = get_or-map-range_with_len (λ j. get_or places j 0) 0 rule.width k k 0 h (omega arith)
+    pub front_place : (k : ℕ) → k < rule.width → get_or front k 0 ≡ get_or places k 0
+    front_place k h = get_or-map-range_with_len (λ j. get_or places j 0) 0 rule.width k k 0 h (omega arith)
 
-    pub front-is : (row : List ℕ) → length row ≡ rule.width → ((k : ℕ) → k < rule.width → get_or row k 0 ≡ get_or places k 0) → row ≡ front
-    front-is row wide same = fill_by_all (λ k. get_or places k 0) row rule.width 0 wide same
+    pub front_is : (row : List ℕ) → length row ≡ rule.width → ((k : ℕ) → k < rule.width → get_or row k 0 ≡ get_or places k 0) → row ≡ front
+    front_is row wide same = fill_by_all (λ k. get_or places k 0) row rule.width 0 wide same
 
     pub same_front : (j : ℕ) → Same bytes rule j places → row_at bytes rule j ≡ front
-    same_front j same = front-is (row_at bytes rule j) (row_wide j) (λ k h. row_place j k 0 h ∙ same k h)
+    same_front j same = front_is (row_at bytes rule j) (row_wide j) (λ k h. row_place j k 0 h ∙ same k h)
 
     pub front_same : (j : ℕ) → row_at bytes rule j ≡ front → Same bytes rule j places
-    front_same j e k h = sym (row_place j k 0 h) ∙ ap (λ row. get_or row k 0) e ∙ front-place k h
+    front_same j e k h = sym (row_place j k 0 h) ∙ ap (λ row. get_or row k 0) e ∙ front_place k h
 
 -- the test tells what it stands for
 pub permits_decides : (kind : Kind) (bytes : List ℕ) (rule : RowsRule) (row : List ℕ) → Decides (permits_of kind bytes rule row) (Permits kind bytes rule row)

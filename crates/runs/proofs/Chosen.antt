@@ -72,8 +72,8 @@ module _ (m : BookMeaning) (listed : ℕ) (sets weights : List ℕ) where
   within_open c few l h = (omega arith, subst (λ (f : Figure). 1 < f.places) (sym (figure_at c l)) h)
 
   module _ {C : Type 0} (k : Machine C) (naming : Naming k) (x : C) where
-    named-open : k.names x (figures_of m listed sets weights) ≢ 255 → Open (figures_of m listed sets weights) (k.names x (figures_of m listed sets weights))
-    named-open ne = elim (naming.named x (figures_of m listed sets weights)) [ inl o ↦ o | inr p ↦ absurd (ne p.0) ]
+    named_open : k.names x (figures_of m listed sets weights) ≢ 255 → Open (figures_of m listed sets weights) (k.names x (figures_of m listed sets weights))
+    named_open ne = elim (naming.named x (figures_of m listed sets weights)) [ inl o ↦ o | inr p ↦ absurd (ne p.0) ]
 
     pub none_open : k.names x (figures_of m listed sets weights) ≡ 255 → length sets ≤ 64 → (c : ℕ) → size (left_at sets c) ≤ 1
     none_open e few c = elim (naming.named x (figures_of m listed sets weights)) [
@@ -88,8 +88,8 @@ module _ (m : BookMeaning) (listed : ℕ) (sets weights : List ℕ) where
     ]
 
     -- a cell that is named, and is not 255, is open
-    pub named-within : (c : ℕ) → c ≡ k.names x (figures_of m listed sets weights) → c ≢ 255 → (c < length sets) × (1 < size (left_at sets c))
-    named-within c e ne = open_within c (subst (λ (z : ℕ). Open (figures_of m listed sets weights) z) (sym e) (named-open (λ q. ne (e ∙ q))))
+    pub named_within : (c : ℕ) → c ≡ k.names x (figures_of m listed sets weights) → c ≢ 255 → (c < length sets) × (1 < size (left_at sets c))
+    named_within c e ne = open_within c (subst (λ (z : ℕ). Open (figures_of m listed sets weights) z) (sym e) (named_open (λ q. ne (e ∙ q))))
 
 -- what is known of a choice
 pub record Chosen (sets : List ℕ) (c v : ℕ) : Type 0 where
@@ -99,5 +99,5 @@ pub record Chosen (sets : List ℕ) (c v : ℕ) : Type 0 where
 
 pub chosen : {C : Type 0} (k : Machine C) (naming : Naming k) {m : BookMeaning} {listed : ℕ} {x : C} {s : State} {c v : ℕ} → Choice k m listed x s c v → Chosen s.sets c v
 chosen k naming {m} {listed} {x} {s} {c} {v} h =
-    let p = named-within m listed s.sets s.weights k naming x c (sym h.named) h.some in
+    let p = named_within m listed s.sets s.weights k naming x c (sym h.named) h.some in
     record { within = p.0; opened = p.1; there = tried_remains s.sets c v p.1 h.place }

@@ -44,65 +44,65 @@ module _ {C : Type 0} {k : Machine C} {m : BookMeaning} {listed : ℕ} where
       never y' u' (subst (λ (b : State). Explores k m listed (k.told x (Stood c)) b false y' u') (settles_same p' p) q')
 
   mutual
-    explores-same : {x y y' : C} {s u u' : State} {found found' : Bool} → Explores k m listed x s found y u → Explores k m listed x s found' y' u'
+    explores_same : {x y y' : C} {s u u' : State} {found found' : Bool} → Explores k m listed x s found y u → Explores k m listed x s found' y' u'
         → (found ≡ found') × (y ≡ y') × (u ≡ u')
-    explores-same (filled e) (filled e') = (refl, refl, refl)
-    explores-same (filled e) (stands h p q) = absurd (h.some (sym h.named ∙ e))
-    explores-same (filled e) (goes_on h f p q) = absurd (h.some (sym h.named ∙ e))
-    explores-same (filled e) (ends h f p) = absurd (h.some (sym h.named ∙ e))
-    explores-same (stands h p q) (filled e) = absurd (h.some (sym h.named ∙ e))
-    explores-same {x} {y' = y'} {s = s} {u' = u'} (stands {t = t} {c = c} {v = v} h p q) (stands {t = t'} h' p' q') =
+    explores_same (filled e) (filled e') = (refl, refl, refl)
+    explores_same (filled e) (stands h p q) = absurd (h.some (sym h.named ∙ e))
+    explores_same (filled e) (goes_on h f p q) = absurd (h.some (sym h.named ∙ e))
+    explores_same (filled e) (ends h f p) = absurd (h.some (sym h.named ∙ e))
+    explores_same (stands h p q) (filled e) = absurd (h.some (sym h.named ∙ e))
+    explores_same {x} {y' = y'} {s = s} {u' = u'} (stands {t = t} {c = c} {v = v} h p q) (stands {t = t'} h' p' q') =
         let e = choice_same h h' in
         let et : t' ≡ t = settles_same (subst₂ (λ (a b : ℕ). Settles m listed (alone s a b) t') e.0 e.1 p') p in
-        explores-same q (subst₂ (λ (a : ℕ) (b : State). Explores k m listed (k.told x (Stood a)) b true y' u') e.0 et q')
-    explores-same {x} {s = s} (stands h p q) (goes_on {y = y} {t = t} h' f' p' q') =
+        explores_same q (subst₂ (λ (a : ℕ) (b : State). Explores k m listed (k.told x (Stood a)) b true y' u') e.0 et q')
+    explores_same {x} {s = s} (stands h p q) (goes_on {y = y} {t = t} h' f' p' q') =
         let e = choice_same h h' in
-        absurd (stands_apart p (λ _ _ w. true≢false (explores-same q w).0) (subst₂ (λ (a b : ℕ). TryFails k m listed x s a b y t) e.0 e.1 f'))
-    explores-same {x} {s = s} (stands h p q) (ends {y = y} {t = t} h' f' p') =
+        absurd (stands_apart p (λ _ _ w. true≢false (explores_same q w).0) (subst₂ (λ (a b : ℕ). TryFails k m listed x s a b y t) e.0 e.1 f'))
+    explores_same {x} {s = s} (stands h p q) (ends {y = y} {t = t} h' f' p') =
         let e = choice_same h h' in
-        absurd (stands_apart p (λ _ _ w. true≢false (explores-same q w).0) (subst₂ (λ (a b : ℕ). TryFails k m listed x s a b y t) e.0 e.1 f'))
-    explores-same (goes_on h f p q) (filled e) = absurd (h.some (sym h.named ∙ e))
-    explores-same {x} {y' = y'} {s = s} {u' = u'} (goes_on h f p q) (stands {t = t'} h' p' q') =
+        absurd (stands_apart p (λ _ _ w. true≢false (explores_same q w).0) (subst₂ (λ (a b : ℕ). TryFails k m listed x s a b y t) e.0 e.1 f'))
+    explores_same (goes_on h f p q) (filled e) = absurd (h.some (sym h.named ∙ e))
+    explores_same {x} {y' = y'} {s = s} {u' = u'} (goes_on h f p q) (stands {t = t'} h' p' q') =
         let e = choice_same h h' in
-        absurd (apart-stands f (subst₂ (λ (a b : ℕ). Settles m listed (alone s a b) t') e.0 e.1 p')
+        absurd (apart_stands f (subst₂ (λ (a b : ℕ). Settles m listed (alone s a b) t') e.0 e.1 p')
         (subst (λ (a : ℕ). Explores k m listed (k.told x (Stood a)) t' true y' u') e.0 q'))
-    explores-same {x} {y' = y'} {s = s} {u' = u'} (goes_on {y = y} {t = t} {u = u} {c = c} {v = v} h f p q) (goes_on {y = z} {t = t'} {u = w} {found = found'} h' f' p' q') =
+    explores_same {x} {y' = y'} {s = s} {u' = u'} (goes_on {y = y} {t = t} {u = u} {c = c} {v = v} h f p q) (goes_on {y = z} {t = t'} {u = w} {found = found'} h' f' p' q') =
         let e = choice_same h h' in
-        let d = tries-same f (subst₂ (λ (a b : ℕ). TryFails k m listed x s a b z t') e.0 e.1 f') in
+        let d = tries_same f (subst₂ (λ (a b : ℕ). TryFails k m listed x s a b z t') e.0 e.1 f') in
         let eu : w ≡ u = settles_same (subst₃ (λ (a b : ℕ) (j : State). Settles m listed (back s a b j) w) e.0 e.1 (sym d.1) p') p in
-        explores-same q (subst₂ (λ (a : C) (b : State). Explores k m listed a b found' y' u') (sym d.0) eu q')
-    explores-same {x} {s = s} {u' = u'} (goes_on h f p q) (ends {y = z} {t = t'} {r = r} h' f' p') =
+        explores_same q (subst₂ (λ (a : C) (b : State). Explores k m listed a b found' y' u') (sym d.0) eu q')
+    explores_same {x} {s = s} {u' = u'} (goes_on h f p q) (ends {y = z} {t = t'} {r = r} h' f' p') =
         let e = choice_same h h' in
-        let d = tries-same f (subst₂ (λ (a b : ℕ). TryFails k m listed x s a b z t') e.0 e.1 f') in
+        let d = tries_same f (subst₂ (λ (a b : ℕ). TryFails k m listed x s a b z t') e.0 e.1 f') in
         absurd (settles_apart p (subst₃ (λ (a b : ℕ) (j : State). Fails m listed r (back s a b j) u') e.0 e.1 (sym d.1) p'))
-    explores-same (ends h f p) (filled e) = absurd (h.some (sym h.named ∙ e))
-    explores-same {x} {y' = y'} {s = s} {u' = u'} (ends h f p) (stands {t = t'} h' p' q') =
+    explores_same (ends h f p) (filled e) = absurd (h.some (sym h.named ∙ e))
+    explores_same {x} {y' = y'} {s = s} {u' = u'} (ends h f p) (stands {t = t'} h' p' q') =
         let e = choice_same h h' in
-        absurd (apart-stands f (subst₂ (λ (a b : ℕ). Settles m listed (alone s a b) t') e.0 e.1 p')
+        absurd (apart_stands f (subst₂ (λ (a b : ℕ). Settles m listed (alone s a b) t') e.0 e.1 p')
         (subst (λ (a : ℕ). Explores k m listed (k.told x (Stood a)) t' true y' u') e.0 q'))
-    explores-same {x} {s = s} (ends h f p) (goes_on {y = z} {t = t'} {u = w} h' f' p' q') =
+    explores_same {x} {s = s} (ends h f p) (goes_on {y = z} {t = t'} {u = w} h' f' p' q') =
         let e = choice_same h h' in
-        let d = tries-same f (subst₂ (λ (a b : ℕ). TryFails k m listed x s a b z t') e.0 e.1 f') in
+        let d = tries_same f (subst₂ (λ (a b : ℕ). TryFails k m listed x s a b z t') e.0 e.1 f') in
         absurd (settles_apart (subst₃ (λ (a b : ℕ) (j : State). Settles m listed (back s a b j) w) e.0 e.1 (sym d.1) p') p)
-    explores-same {x} {s = s} {u' = u'} (ends h f p) (ends {y = z} {t = t'} {r = r} h' f' p') =
+    explores_same {x} {s = s} {u' = u'} (ends h f p) (ends {y = z} {t = t'} {r = r} h' f' p') =
         let e = choice_same h h' in
-        let d = tries-same f (subst₂ (λ (a b : ℕ). TryFails k m listed x s a b z t') e.0 e.1 f') in
+        let d = tries_same f (subst₂ (λ (a b : ℕ). TryFails k m listed x s a b z t') e.0 e.1 f') in
         (refl, d.0, (fails_same p (subst₃ (λ (a b : ℕ) (j : State). Fails m listed r (back s a b j) u') e.0 e.1 (sym d.1) p')).1)
 
-    tries-same : {x : C} {s t t' : State} {c v : ℕ} {y y' : C} → TryFails k m listed x s c v y t → TryFails k m listed x s c v y' t' → (y ≡ y') × (t ≡ t')
-    tries-same (at_first p) (at_first p') = (refl, (fails_same p p').1)
-    tries-same (at_first p) (at_last p' q') = absurd (settles_apart p' p)
-    tries-same (at_last p q) (at_first p') = absurd (settles_apart p p')
-    tries-same {x} {c = c} (at_last {t = t} {u = u} p q) (at_last {y = y'} {t = t'} {u = u'} p' q') =
+    tries_same : {x : C} {s t t' : State} {c v : ℕ} {y y' : C} → TryFails k m listed x s c v y t → TryFails k m listed x s c v y' t' → (y ≡ y') × (t ≡ t')
+    tries_same (at_first p) (at_first p') = (refl, (fails_same p p').1)
+    tries_same (at_first p) (at_last p' q') = absurd (settles_apart p' p)
+    tries_same (at_last p q) (at_first p') = absurd (settles_apart p p')
+    tries_same {x} {c = c} (at_last {t = t} {u = u} p q) (at_last {y = y'} {t = t'} {u = u'} p' q') =
         let et : t' ≡ t = settles_same p' p in
-        let d = explores-same q (subst (λ (b : State). Explores k m listed (k.told x (Stood c)) b false y' u') et q') in
+        let d = explores_same q (subst (λ (b : State). Explores k m listed (k.told x (Stood c)) b false y' u') et q') in
         (ap (λ (z : C). k.told z (Failed c)) d.1, d.2)
 
-    apart-stands : {x y : C} {s t u w : State} {c v : ℕ} {z : C} → TryFails k m listed x s c v z w → Settles m listed (alone s c v) t
+    apart_stands : {x y : C} {s t u w : State} {c v : ℕ} {z : C} → TryFails k m listed x s c v z w → Settles m listed (alone s c v) t
         → Explores k m listed (k.told x (Stood c)) t true y u → ⊥
-    apart-stands (at_first p) p' q' = settles_apart p' p
-    apart-stands {x} {y} {u = u} {c = c} (at_last p q) p' q' =
-        false≢true (explores-same q (subst (λ (b : State). Explores k m listed (k.told x (Stood c)) b true y u) (settles_same p' p) q')).0
+    apart_stands (at_first p) p' q' = settles_apart p' p
+    apart_stands {x} {y} {u = u} {c = c} (at_last p q) p' q' =
+        false≢true (explores_same q (subst (λ (b : State). Explores k m listed (k.told x (Stood c)) b true y u) (settles_same p' p) q')).0
 
   searches_same : {x y y' : C} {s u u' : State} {found found' : Bool} → Searches k m listed x s found y u → Searches k m listed x s found' y' u'
       → (found ≡ found') × (y ≡ y') × (u ≡ u')
@@ -110,7 +110,7 @@ module _ {C : Type 0} {k : Machine C} {m : BookMeaning} {listed : ℕ} where
   searches_same (fails p) (settled p' q') = absurd (settles_apart p' p)
   searches_same (settled p q) (fails p') = absurd (settles_apart p p')
   searches_same {x} {y' = y'} {u' = u'} {found' = found'} (settled p q) (settled p' q') =
-      explores-same q (subst (λ (b : State). Explores k m listed x b found' y' u') (settles_same p' p) q')
+      explores_same q (subst (λ (b : State). Explores k m listed x b found' y' u') (settles_same p' p) q')
 
   pub only_run : {start : List ℕ} {x y : C} {ws ws' sets : List ℕ} {l : Line} → Run k m start listed x ws l y ws' sets → OnlyRun k m start listed x ws l y ws' sets
   only_run (ran {t = t} {found = found} p) l' y' w' s' (ran {t = t'} {found = found'} p') =

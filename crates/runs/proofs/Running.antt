@@ -26,15 +26,15 @@ module _ (m : BookMeaning) (listed n : ℕ) (suits : Suits m n) {C : Type 0} (k 
   fails_marks p = (fails_spent m listed n suits p).sound.marks
 
   mutual
-    explores-marks : {x y : C} {s u : State} {found : Bool} → Explores k m listed x s found y u → Marks listed s.used u.used
-    explores-marks (filled {s = s} e) = marks_refl listed s.used
-    explores-marks (stands h p q) = marks_trans (settles_marks p) (explores-marks q)
-    explores-marks (goes_on h f p q) = marks_trans (tries-marks f) (marks_trans (settles_marks p) (explores-marks q))
-    explores-marks (ends h f p) = marks_trans (tries-marks f) (fails_marks p)
+    explores_marks : {x y : C} {s u : State} {found : Bool} → Explores k m listed x s found y u → Marks listed s.used u.used
+    explores_marks (filled {s = s} e) = marks_refl listed s.used
+    explores_marks (stands h p q) = marks_trans (settles_marks p) (explores_marks q)
+    explores_marks (goes_on h f p q) = marks_trans (tries_marks f) (marks_trans (settles_marks p) (explores_marks q))
+    explores_marks (ends h f p) = marks_trans (tries_marks f) (fails_marks p)
 
-    tries-marks : {x y : C} {s t : State} {c v : ℕ} → TryFails k m listed x s c v y t → Marks listed s.used t.used
-    tries-marks (at_first p) = fails_marks p
-    tries-marks (at_last p q) = marks_trans (settles_marks p) (explores-marks q)
+    tries_marks : {x y : C} {s t : State} {c v : ℕ} → TryFails k m listed x s c v y t → Marks listed s.used t.used
+    tries_marks (at_first p) = fails_marks p
+    tries_marks (at_last p q) = marks_trans (settles_marks p) (explores_marks q)
 
   -- ---- lengths
   settles_long : {s t : State} → length s.sets ≡ n → Settles m listed s t → length t.sets ≡ n
@@ -51,28 +51,28 @@ module _ (m : BookMeaning) (listed n : ℕ) (suits : Suits m n) {C : Type 0} (k 
   fails_none long p f ins met = let a = fails_spent m listed n suits p in a.none long f (a.sound.kept long f ins met)
 
   mutual
-    explores-none : {x y : C} {s u : State} → length s.sets ≡ n → Explores k m listed x s false y u → (f : List ℕ) → Inside f s.sets → MeetsAll m u.used f → ⊥
-    explores-none long (goes_on {s = s} {c = c} {v = v} h g p q) f ins met =
+    explores_none : {x y : C} {s u : State} → length s.sets ≡ n → Explores k m listed x s false y u → (f : List ℕ) → Inside f s.sets → MeetsAll m u.used f → ⊥
+    explores_none long (goes_on {s = s} {c = c} {v = v} h g p q) f ins met =
         let a = chosen k naming h in
         elim (cases_eq (get_or f c 0) v) [
-          | inl e ↦ tries-none long a.within g f ins e (λ r j. met r ((explores-marks q).more r ((settles_marks p).more r j)))
-          | inr ne ↦ explores-none (settles_long (out_long s c v long) p) q f
-              ((sound_settles m listed n suits p).kept (out_long s c v long) f (out_inside s.sets c v a.within a.there.1 f ins ne) (λ r j. met r ((explores-marks q).more r j)))
+          | inl e ↦ tries_none long a.within g f ins e (λ r j. met r ((explores_marks q).more r ((settles_marks p).more r j)))
+          | inr ne ↦ explores_none (settles_long (out_long s c v long) p) q f
+              ((sound_settles m listed n suits p).kept (out_long s c v long) f (out_inside s.sets c v a.within a.there.1 f ins ne) (λ r j. met r ((explores_marks q).more r j)))
               met
         ]
-    explores-none long (ends {s = s} {c = c} {v = v} h g p) f ins met =
+    explores_none long (ends {s = s} {c = c} {v = v} h g p) f ins met =
         let a = chosen k naming h in
         elim (cases_eq (get_or f c 0) v) [
-          | inl e ↦ tries-none long a.within g f ins e (λ r j. met r ((fails_marks p).more r j))
+          | inl e ↦ tries_none long a.within g f ins e (λ r j. met r ((fails_marks p).more r j))
           | inr ne ↦ fails_none (out_long s c v long) p f (out_inside s.sets c v a.within a.there.1 f ins ne) met
         ]
 
-    tries-none : {x y : C} {s t : State} {c v : ℕ} → length s.sets ≡ n → c < length s.sets → TryFails k m listed x s c v y t
+    tries_none : {x y : C} {s t : State} {c v : ℕ} → length s.sets ≡ n → c < length s.sets → TryFails k m listed x s c v y t
         → (f : List ℕ) → Inside f s.sets → get_or f c 0 ≡ v → MeetsAll m t.used f → ⊥
-    tries-none long l (at_first {s = s} {c = c} {v = v} p) f ins e met = fails_none (alone_long s c v long) p f (alone_inside s.sets c v l f ins e) met
-    tries-none long l (at_last {s = s} {c = c} {v = v} p q) f ins e met =
-        explores-none (settles_long (alone_long s c v long) p) q f
-        ((sound_settles m listed n suits p).kept (alone_long s c v long) f (alone_inside s.sets c v l f ins e) (λ r j. met r ((explores-marks q).more r j)))
+    tries_none long l (at_first {s = s} {c = c} {v = v} p) f ins e met = fails_none (alone_long s c v long) p f (alone_inside s.sets c v l f ins e) met
+    tries_none long l (at_last {s = s} {c = c} {v = v} p q) f ins e met =
+        explores_none (settles_long (alone_long s c v long) p) q f
+        ((sound_settles m listed n suits p).kept (alone_long s c v long) f (alone_inside s.sets c v l f ins e) (λ r j. met r ((explores_marks q).more r j)))
         met
 
   -- ---- a filling is found: one place at each cell, and support for it
@@ -90,33 +90,33 @@ module _ (m : BookMeaning) (listed n : ℕ) (suits : Suits m n) {C : Type 0} (k 
     settle : {s t : State} → length s.sets ≡ n → Full s.sets → Settles m listed s t → Settled m listed s t
     settle long full p = settles_law m listed n suits law long full p
 
-    explores-found : {x y : C} {s u : State} → length s.sets ≡ n → Full s.sets → Closed m listed s.sets → Explores k m listed x s true y u → Found s u
-    explores-found long full closed (filled {x = x} {s = s} e) =
+    explores_found : {x y : C} {s u : State} → length s.sets ≡ n → Full s.sets → Closed m listed s.sets → Explores k m listed x s true y u → Found s u
+    explores_found long full closed (filled {x = x} {s = s} e) =
         record { long = long; full = full; inside = λ c v h. h; closed = closed; single = none_open m listed s.sets s.weights k naming x e (omega arith) }
-    explores-found long full closed (stands {s = s} {t = t} {c = c} {v = v} h p q) =
+    explores_found long full closed (stands {s = s} {t = t} {c = c} {v = v} h p q) =
         let a = chosen k naming h in
         let b = settle (alone_long s c v long) (alone_full s.sets c v a.within a.there.0 full) p in
         found_from (λ d w r. alone_within s.sets c v a.within a.there d w (b.inside d w r))
-        (explores-found (settles_long (alone_long s c v long) p) b.full b.closed q)
-    explores-found long full closed (goes_on {s = s} {c = c} {v = v} h g p q) =
+        (explores_found (settles_long (alone_long s c v long) p) b.full b.closed q)
+    explores_found long full closed (goes_on {s = s} {c = c} {v = v} h g p q) =
         let a = chosen k naming h in
         let b = settle (out_long s c v long) (open_full s.sets c v a.within a.opened a.there.1 full) p in
         found_from (λ d w r. out_within s.sets c v a.within a.there.1 d w (b.inside d w r))
-        (explores-found (settles_long (out_long s c v long) p) b.full b.closed q)
+        (explores_found (settles_long (out_long s c v long) p) b.full b.closed q)
 
-    searches-found : {x y : C} {s u : State} → length s.sets ≡ n → Full s.sets → Searches k m listed x s true y u → Found s u
-    searches-found long full (settled p q) =
+    searches_found : {x y : C} {s u : State} → length s.sets ≡ n → Full s.sets → Searches k m listed x s true y u → Found s u
+    searches_found long full (settled p q) =
         let b = settle long full p in
-        found_from b.inside (explores-found (settles_long long p) b.full b.closed q)
+        found_from b.inside (explores_found (settles_long long p) b.full b.closed q)
 
   searches_none : {x y : C} {s u : State} → length s.sets ≡ n → Searches k m listed x s false y u → (f : List ℕ) → Inside f s.sets → MeetsAll m u.used f → ⊥
   searches_none long (fails p) f ins met = fails_none long p f ins met
   searches_none long (settled p q) f ins met =
-      explores-none (settles_long long p) q f ((sound_settles m listed n suits p).kept long f ins (λ r j. met r ((explores-marks q).more r j))) met
+      explores_none (settles_long long p) q f ((sound_settles m listed n suits p).kept long f ins (λ r j. met r ((explores_marks q).more r j))) met
 
   searches_marks : {x y : C} {s u : State} {found : Bool} → Searches k m listed x s found y u → Marks listed s.used u.used
   searches_marks (fails p) = fails_marks p
-  searches_marks (settled p q) = marks_trans (settles_marks p) (explores-marks q)
+  searches_marks (settled p q) = marks_trans (settles_marks p) (explores_marks q)
 
 -- ---- the filling that is left
 some_place : (sets : List ℕ) → Full sets → (c : ℕ) → c < length sets → (v : ℕ) × Remains sets c v
@@ -172,7 +172,7 @@ module _ {C : Type 0} (k : Machine C) (naming : Naming k) (m : BookMeaning) (law
 
   pub run_right : {x y : C} {ws ws' sets : List ℕ} {l : Line} → Run k m start listed x ws l y ws' sets → Right (Meetable m start) l
   run_right (ran {found = true} p) =
-      let a = fills_of refl (searches-found m listed (length start) ready.suits k naming ready.few law refl ready.full p) in
+      let a = fills_of refl (searches_found m listed (length start) ready.suits k naming ready.few law refl ready.full p) in
       record { fits = λ _. fits_of a; only = λ _. refl; unused = λ _. refl; among = λ e. absurd (omega arith); clash = λ e. absurd (omega arith); known = inl refl }
   run_right (ran {t = t} {found = false} p) =
       let marks = searches_marks m listed (length start) ready.suits k naming p in
@@ -188,7 +188,7 @@ module _ {C : Type 0} (k : Machine C) (naming : Naming k) (m : BookMeaning) (law
       }
 
   pub run_fills : {x y : C} {ws ws' sets : List ℕ} {l : Line} → Run k m start listed x ws l y ws' sets → l.verdict ≡ 0 → Fills m start listed sets
-  run_fills (ran {found = true} p) e = fills_of refl (searches-found m listed (length start) ready.suits k naming ready.few law refl ready.full p)
+  run_fills (ran {found = true} p) e = fills_of refl (searches_found m listed (length start) ready.suits k naming ready.few law refl ready.full p)
   run_fills (ran {found = false} p) e = absurd (omega arith)
 
 pub run_lists : {C : Type 0} {k : Machine C} {m : BookMeaning} {start : List ℕ} {listed : ℕ} {x y : C} {ws ws' sets : List ℕ} {l : Line}

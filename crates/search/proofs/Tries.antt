@@ -13,7 +13,7 @@ use Rattle.runs.specs.Run.{Choice, TryFails, TryFails.at_first, TryFails.at_last
 use Rattle.runs.specs.Law.{Settled}
 use Rattle.runs.proofs.MoreBits.{size_pow, size_zero}
 use Rattle.runs.proofs.Steps.{total_set, out_total, out_within}
-use Rattle.runs.proofs.Chosen.{Chosen, chosen, named-within, open_full}
+use Rattle.runs.proofs.Chosen.{Chosen, chosen, named_within, open_full}
 use Rattle.search.specs.Room.{Able}
 use Rattle.search.proofs.Rooms.{able_sub}
 
@@ -49,7 +49,7 @@ pub record Picked {C : Type 0} (k : Machine C) (m : BookMeaning) (listed : ℕ) 
 pub picked : {C : Type 0} (k : Machine C) (naming : Naming k) (m : BookMeaning) (listed : ℕ) (x : C) (sets : List ℕ) (used : ℕ) (weights : List ℕ) (c v : ℕ)
     → c ≡ k.names x (figures_of m listed sets weights) → c ≢ 255 → (left_at sets c ≢ 0 → Lowest (left_at sets c) v × (v < 64)) → Picked k m listed x sets used weights c v
 picked k naming m listed x sets used weights c v e ne low =
-    let p = named-within m listed sets weights k naming x c e ne in
+    let p = named_within m listed sets weights k naming x c e ne in
     let h : Choice k m listed x (state sets used weights) c v = record { named = sym e; some = ne; place = (low (open_some (left_at sets c) p.1)).0 } in
     let a = chosen k naming h in
     record { choice = h; known = a; above = open_above (left_at sets c) v a.opened a.there.1 }

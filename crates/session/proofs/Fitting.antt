@@ -64,33 +64,33 @@ module _ {B C : Type 0} (meaning : B → BookMeaning) (k : Machine C) (naming : 
 
   module _ {start sets : List ℕ} {on : ℕ} {log log' : List Line} {f : Values} {c : C} {w : List ℕ} (e : start ≡ the_start) (i : on ≡ the_on)
       (p : Logged (Ran k (meaning s.book) start) (Meetable (meaning s.book) start) on (lasting_of s) log f (lasting c w) sets log') (same : length sets ≡ cells (sheet_of meaning s)) where
-    runs-are : Fit (Ran k (meaning s.book) the_start) the_on (lasting_of s) (take f.lines log') p.out (lasting c w)
-    runs-are = subst₂ (λ (x : List ℕ) (y : ℕ). Fit (Ran k (meaning s.book) x) y (lasting_of s) (take f.lines log') p.out (lasting c w)) e i p.runs
+    runs_are : Fit (Ran k (meaning s.book) the_start) the_on (lasting_of s) (take f.lines log') p.out (lasting c w)
+    runs_are = subst₂ (λ (x : List ℕ) (y : ℕ). Fit (Ran k (meaning s.book) x) y (lasting_of s) (take f.lines log') p.out (lasting c w)) e i p.runs
 
-    comes-filled : (bytes : List ℕ) → length sets ≤ length bytes → ((c : ℕ) → c < length sets → LowestByte (get_or sets c 0) (get_or bytes c 0))
+    comes_filled : (bytes : List ℕ) → length sets ≤ length bytes → ((c : ℕ) → c < length sets → LowestByte (get_or sets c 0) (get_or bytes c 0))
         → (out : Outcome (List ℕ)) → Fit (Ran k (meaning s.book) the_start) the_on (lasting_of s) (take f.lines log') out (lasting c w) → Answers out f sets
         → Comes out f (take (length the_start) bytes)
-    comes-filled bytes room low (left o) r a =
+    comes_filled bytes room low (left o) r a =
         let q : Fills (meaning s.book) the_start the_on sets = subst (Fills (meaning s.book) the_start the_on) a.2 (first_run k naming (sheet_of meaning s) law r) in
         (a.0, a.1, subst₂ (λ (x : List ℕ) (y : ℕ). Alone x (take y bytes)) (sym a.2) (same ∙ sym the_long) (lowest_filling bytes q room low))
-    comes-filled bytes room low (core d) r a = a
+    comes_filled bytes room low (core d) r a = a
 
-    pub solved-filled : (filling bytes : List ℕ) → f.verdict ≡ 0 → length sets ≤ length bytes
+    pub solved_filled : (filling bytes : List ℕ) → f.verdict ≡ 0 → length sets ≤ length bytes
         → ((c : ℕ) → c < length sets → LowestByte (get_or sets c 0) (get_or bytes c 0)) → drop (length sets) bytes ≡ drop (length sets) filling
         → Solved meaning k s log filling f (with_lasting s (lasting c w)) log' bytes
-    solved-filled filling bytes v room low later = record {
+    solved_filled filling bytes v room low later = record {
       kept = refl;
-      runs = record { out = p.out; runs = runs-are; comes = comes-filled bytes room low p.out runs-are p.answers; counted = p.inside };
+      runs = record { out = p.out; runs = runs_are; comes = comes_filled bytes room low p.out runs_are p.answers; counted = p.inside };
       keeps = record { rest = p.keeps; later = λ _. subst (λ (n : ℕ). drop n bytes ≡ drop n filling) same later; bytes = λ one. absurd (omega arith) };
     }
 
-    comes-clashed : (f.verdict ≡ 0 → ⊥) → (bytes : List ℕ) (out : Outcome (List ℕ)) → Answers out f sets → Comes out f bytes
-    comes-clashed ne bytes (left o) a = absurd (ne a.0)
-    comes-clashed ne bytes (core d) a = a
+    comes_clashed : (f.verdict ≡ 0 → ⊥) → (bytes : List ℕ) (out : Outcome (List ℕ)) → Answers out f sets → Comes out f bytes
+    comes_clashed ne bytes (left o) a = absurd (ne a.0)
+    comes_clashed ne bytes (core d) a = a
 
-    pub solved-clashed : (filling : List ℕ) → (f.verdict ≡ 0 → ⊥) → Solved meaning k s log filling f (with_lasting s (lasting c w)) log' filling
-    solved-clashed filling ne = record {
+    pub solved_clashed : (filling : List ℕ) → (f.verdict ≡ 0 → ⊥) → Solved meaning k s log filling f (with_lasting s (lasting c w)) log' filling
+    solved_clashed filling ne = record {
       kept = refl;
-      runs = record { out = p.out; runs = runs-are; comes = comes-clashed ne (take (length the_start) filling) p.out p.answers; counted = p.inside };
+      runs = record { out = p.out; runs = runs_are; comes = comes_clashed ne (take (length the_start) filling) p.out p.answers; counted = p.inside };
       keeps = record { rest = p.keeps; later = λ z. absurd (ne z); bytes = λ _. refl };
     }

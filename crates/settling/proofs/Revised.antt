@@ -22,28 +22,28 @@ module _ (m : BookMeaning) (r i v : ℕ) (s : List ℕ) (u c : ℕ) (at : c ≡ 
   lost_at h n = record { there = (small, subst (λ (x : ℕ). In (get_or s x 0) v) at h); unsupported = n }
 
   module _ (h : In (get_or s c 0) v) (n : Supported (m.rule r) i v s → ⊥) (rest used' : ℕ) (e : rest ≡ get_or s c 0 - 2 ^ v) (f : used' ≡ bit_or u (2 ^ r)) where
-    out-is : out_of s (cell_at m r i) v ≡ set s c rest
-    out-is = sym (ap (set s c) e ∙ ap (λ (x : ℕ). out_of s x v) at)
+    out_is : out_of s (cell_at m r i) v ≡ set s c rest
+    out_is = sym (ap (set s c) e ∙ ap (λ (x : ℕ). out_of s x v) at)
 
     left_is : get_or (set s c rest) (cell_at m r i) 0 ≡ rest
     left_is = ap (λ (x : ℕ). get_or (set s x rest) (cell_at m r i) 0) at ∙ get_or-set_same s (cell_at m r i) rest 0 within
 
-    pub removed-at : rest < 2 ^ 64 → rest ≢ 0 → Leads (Revises m r i v) s u (set s c rest) used'
-    removed-at fits ne w =
+    pub removed_at : rest < 2 ^ 64 → rest ≢ 0 → Leads (Revises m r i v) s u (set s c rest) used'
+    removed_at fits ne w =
         let some : Empty (out_of s (cell_at m r i) v) (cell_at m r i) → ⊥ = λ none. not_zero rest fits ne (λ x l k.
-        none x (l, subst (λ (t : List ℕ). In (get_or t (cell_at m r i) 0) x) (sym out-is) (subst (λ (y : ℕ). In y x) (sym left_is) k))) in
-        subst₂ (λ (t : List ℕ) (y : ℕ). Revises m r i v (state s u w) (state t y w)) out-is (sym f) (removed (lost_at h n) some)
+        none x (l, subst (λ (t : List ℕ). In (get_or t (cell_at m r i) 0) x) (sym out_is) (subst (λ (y : ℕ). In y x) (sym left_is) k))) in
+        subst₂ (λ (t : List ℕ) (y : ℕ). Revises m r i v (state s u w) (state t y w)) out_is (sym f) (removed (lost_at h n) some)
 
-    pub emptied-at : rest ≡ 0 → Spends (Empties m r i v) r s u (set s c rest) used'
-    emptied-at z w =
+    pub emptied_at : rest ≡ 0 → Spends (Empties m r i v) r s u (set s c rest) used'
+    emptied_at z w =
         let none : Empty (out_of s (cell_at m r i) v) (cell_at m r i) = λ x k.
-        has_zero x (subst (λ (y : ℕ). In y x) (ap (λ (t : List ℕ). get_or t (cell_at m r i) 0) out-is ∙ left_is ∙ z) k.1) in
-        subst₂ (λ (t : List ℕ) (y : ℕ). Empties m r i v (state s u w) (state t y (weighed r w))) out-is (sym f) (emptied (lost_at h n) none)
+        has_zero x (subst (λ (y : ℕ). In y x) (ap (λ (t : List ℕ). get_or t (cell_at m r i) 0) out_is ∙ left_is ∙ z) k.1) in
+        subst₂ (λ (t : List ℕ) (y : ℕ). Empties m r i v (state s u w) (state t y (weighed r w))) out_is (sym f) (emptied (lost_at h n) none)
 
-    pub report-at : Report true s (set s c rest)
-    report-at = record {
+    pub report_at : Report true s (set s c rest)
+    report_at = record {
       same = λ q. absurd (true≢false q);
-      less = λ _. subst (λ (t : List ℕ). total t < total s) out-is (out_total s (cell_at m r i) v within (subst (λ (x : ℕ). In (get_or s x 0) v) at h));
+      less = λ _. subst (λ (t : List ℕ). total t < total s) out_is (out_total s (cell_at m r i) v within (subst (λ (x : ℕ). In (get_or s x 0) v) at h));
     }
 
 -- ---- the places past the highest are absent

@@ -22,15 +22,15 @@ module _ (n : ℕ) where
   side_below (Cell c h) k = (k.0, tt)
 
   mutual
-    mentions-below : (c : Condition) → Known n c → Below (mentions c)
-    mentions-below (compares a o b) k = each_append (λ c. c < n) (side_cells a) (side_cells b) (side_below a k.0) (side_below b k.1)
-    mentions-below (negates c) k = mentions-below c k
-    mentions-below (all cs) k = list-below cs k
-    mentions-below (any cs) k = list-below cs k
+    mentions_below : (c : Condition) → Known n c → Below (mentions c)
+    mentions_below (compares a o b) k = each_append (λ c. c < n) (side_cells a) (side_cells b) (side_below a k.0) (side_below b k.1)
+    mentions_below (negates c) k = mentions_below c k
+    mentions_below (all cs) k = list_below cs k
+    mentions_below (any cs) k = list_below cs k
 
-    list-below : (cs : Conditions) → KnownAll n cs → Below (list_mentions cs)
-    list-below (one c) k = mentions-below c k
-    list-below (more c cs) k = each_append (λ c. c < n) (mentions c) (list_mentions cs) (mentions-below c k.0) (list-below cs k.1)
+    list_below : (cs : Conditions) → KnownAll n cs → Below (list_mentions cs)
+    list_below (one c) k = mentions_below c k
+    list_below (more c cs) k = each_append (λ c. c < n) (mentions c) (list_mentions cs) (mentions_below c k.0) (list_below cs k.1)
 
   noted_below : (seen cs : List ℕ) → Below seen → Below cs → Below (noted seen cs)
   noted_below seen [] h k = h
@@ -39,10 +39,10 @@ module _ (n : ℕ) where
       (cond_both (among c seen) seen (seen ++ (c ∷ [])) Below (λ _. h) (λ _. each_append (λ c. c < n) seen (c ∷ []) h (k.0, tt))) k.1
 
   pub cells_known : (c : Condition) → Known n c → (k : ℕ) → k < length (cells_of c) → get_or (cells_of c) k 0 < n
-  cells_known c h k l = each_at (λ c. c < n) (cells_of c) 0 (noted_below [] (mentions c) tt (mentions-below c h)) k l
+  cells_known c h k l = each_at (λ c. c < n) (cells_of c) 0 (noted_below [] (mentions c) tt (mentions_below c h)) k l
 
   pub cells_below : (c : Condition) → Known n c → Each (λ x. x < n) (cells_of c)
-  cells_below c h = noted_below [] (mentions c) tt (mentions-below c h)
+  cells_below c h = noted_below [] (mentions c) tt (mentions_below c h)
 
 -- ---- different
 abbrev Apart : List ℕ → Type 0

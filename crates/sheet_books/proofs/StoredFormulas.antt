@@ -30,46 +30,46 @@ module _ (ns : List Node) where
   child_there n i j l g = and_from (ltb j i) (grounded n ns j) (lt-ltb j i l) g
 
   mutual
-    stands-grounded : (c : Condition) (n i : ℕ) → i ≤ n → Stands ns i c → grounded (suc n) ns i ≡ true
-    stands-grounded (compares a o b) n i l s = ap (node_grounded (grounded n ns) i) s
-    stands-grounded (negates c) n i l s =
+    stands_grounded : (c : Condition) (n i : ℕ) → i ≤ n → Stands ns i c → grounded (suc n) ns i ≡ true
+    stands_grounded (compares a o b) n i l s = ap (node_grounded (grounded n ns) i) s
+    stands_grounded (negates c) n i l s =
         ap (node_grounded (grounded n ns) i) s.2
-        ∙ child_there n i s.0 s.1 (below (λ k. grounded k ns s.0 ≡ true) s.0 (λ k h. stands-grounded c k s.0 h s.3) n (omega (arith, s.1)))
-    stands-grounded (all cs) n i l s = list-grounded And (λ m j k h. refl) cs n i l s
-    stands-grounded (any cs) n i l s = list-grounded Or (λ m j k h. refl) cs n i l s
+        ∙ child_there n i s.0 s.1 (below (λ k. grounded k ns s.0 ≡ true) s.0 (λ k h. stands_grounded c k s.0 h s.3) n (omega (arith, s.1)))
+    stands_grounded (all cs) n i l s = list_grounded And (λ m j k h. refl) cs n i l s
+    stands_grounded (any cs) n i l s = list_grounded Or (λ m j k h. refl) cs n i l s
 
-    list-grounded : (joins : ℕ → ℕ → Node) → ((n i j k : ℕ) → node_grounded (grounded n ns) i (joins j k) ≡ (child (grounded n ns) i j && child (grounded n ns) i k))
+    list_grounded : (joins : ℕ → ℕ → Node) → ((n i j k : ℕ) → node_grounded (grounded n ns) i (joins j k) ≡ (child (grounded n ns) i j && child (grounded n ns) i k))
         → (cs : Conditions) (n i : ℕ) → i ≤ n → StandsAll joins ns i cs → grounded (suc n) ns i ≡ true
-    list-grounded joins is (one c) n i l s = stands-grounded c n i l s
-    list-grounded joins is (more c cs) n i l s =
+    list_grounded joins is (one c) n i l s = stands_grounded c n i l s
+    list_grounded joins is (more c cs) n i l s =
         ap (node_grounded (grounded n ns) i) s.4 ∙ is n i s.0 s.1
         ∙ and_from (child (grounded n ns) i s.0) (child (grounded n ns) i s.1)
-        (child_there n i s.0 s.2 (below (λ k. grounded k ns s.0 ≡ true) s.0 (λ k h. stands-grounded c k s.0 h s.5) n (omega (arith, s.2))))
-        (child_there n i s.1 s.3 (below (λ k. grounded k ns s.1 ≡ true) s.1 (λ k h. list-grounded joins is cs k s.1 h s.6) n (omega (arith, s.3))))
+        (child_there n i s.0 s.2 (below (λ k. grounded k ns s.0 ≡ true) s.0 (λ k h. stands_grounded c k s.0 h s.5) n (omega (arith, s.2))))
+        (child_there n i s.1 s.3 (below (λ k. grounded k ns s.1 ≡ true) s.1 (λ k h. list_grounded joins is cs k s.1 h s.6) n (omega (arith, s.3))))
 
   module _ (f : List ℤ) where
     mutual
-      stands-true : (c : Condition) (n i : ℕ) → i ≤ n → Stands ns i c → truth f (tree (suc n) ns i) ≡ truth f c
-      stands-true (compares a o b) n i l s = ap (λ x. truth f (node_tree (tree n ns) x)) s
-      stands-true (negates c) n i l s =
+      stands_true : (c : Condition) (n i : ℕ) → i ≤ n → Stands ns i c → truth f (tree (suc n) ns i) ≡ truth f c
+      stands_true (compares a o b) n i l s = ap (λ x. truth f (node_tree (tree n ns) x)) s
+      stands_true (negates c) n i l s =
           ap (λ x. truth f (node_tree (tree n ns) x)) s.2
-          ∙ ap not (below (λ k. truth f (tree k ns s.0) ≡ truth f c) s.0 (λ k h. stands-true c k s.0 h s.3) n (omega (arith, s.1)))
-      stands-true (all cs) n i l s = all_true cs n i l s
-      stands-true (any cs) n i l s = any-true cs n i l s
+          ∙ ap not (below (λ k. truth f (tree k ns s.0) ≡ truth f c) s.0 (λ k h. stands_true c k s.0 h s.3) n (omega (arith, s.1)))
+      stands_true (all cs) n i l s = all_stand_true cs n i l s
+      stands_true (any cs) n i l s = any_stand_true cs n i l s
 
-      all_true : (cs : Conditions) (n i : ℕ) → i ≤ n → StandsAll And ns i cs → truth f (tree (suc n) ns i) ≡ all_true f cs
-      all_true (one c) n i l s = stands-true c n i l s
-      all_true (more c cs) n i l s =
+      all_stand_true : (cs : Conditions) (n i : ℕ) → i ≤ n → StandsAll And ns i cs → truth f (tree (suc n) ns i) ≡ all_true f cs
+      all_stand_true (one c) n i l s = stands_true c n i l s
+      all_stand_true (more c cs) n i l s =
           ap (λ x. truth f (node_tree (tree n ns) x)) s.4
-          ∙ ap (λ b. b && truth f (tree n ns s.1)) (below (λ k. truth f (tree k ns s.0) ≡ truth f c) s.0 (λ k h. stands-true c k s.0 h s.5) n (omega (arith, s.2)))
-          ∙ ap (λ b. truth f c && b) (below (λ k. truth f (tree k ns s.1) ≡ all_true f cs) s.1 (λ k h. all_true cs k s.1 h s.6) n (omega (arith, s.3)))
+          ∙ ap (λ b. b && truth f (tree n ns s.1)) (below (λ k. truth f (tree k ns s.0) ≡ truth f c) s.0 (λ k h. stands_true c k s.0 h s.5) n (omega (arith, s.2)))
+          ∙ ap (λ b. truth f c && b) (below (λ k. truth f (tree k ns s.1) ≡ all_true f cs) s.1 (λ k h. all_stand_true cs k s.1 h s.6) n (omega (arith, s.3)))
 
-      any-true : (cs : Conditions) (n i : ℕ) → i ≤ n → StandsAll Or ns i cs → truth f (tree (suc n) ns i) ≡ any_true f cs
-      any-true (one c) n i l s = stands-true c n i l s
-      any-true (more c cs) n i l s =
+      any_stand_true : (cs : Conditions) (n i : ℕ) → i ≤ n → StandsAll Or ns i cs → truth f (tree (suc n) ns i) ≡ any_true f cs
+      any_stand_true (one c) n i l s = stands_true c n i l s
+      any_stand_true (more c cs) n i l s =
           ap (λ x. truth f (node_tree (tree n ns) x)) s.4
-          ∙ ap (λ b. b || truth f (tree n ns s.1)) (below (λ k. truth f (tree k ns s.0) ≡ truth f c) s.0 (λ k h. stands-true c k s.0 h s.5) n (omega (arith, s.2)))
-          ∙ ap (λ b. truth f c || b) (below (λ k. truth f (tree k ns s.1) ≡ any_true f cs) s.1 (λ k h. any-true cs k s.1 h s.6) n (omega (arith, s.3)))
+          ∙ ap (λ b. b || truth f (tree n ns s.1)) (below (λ k. truth f (tree k ns s.0) ≡ truth f c) s.0 (λ k h. stands_true c k s.0 h s.5) n (omega (arith, s.2)))
+          ∙ ap (λ b. truth f c || b) (below (λ k. truth f (tree k ns s.1) ≡ any_true f cs) s.1 (λ k h. any_stand_true cs k s.1 h s.6) n (omega (arith, s.3)))
 
 -- ---- the formulas in the stores
 record FormulaThere (formulas : List Formula) (nodes : List Node) (c : Condition) (r : ℕ) : Type 0 where
@@ -131,14 +131,14 @@ module _ (lists : List (List ℤ)) (short : Short lists) (few : length lists ≤
       inside =
           let t = there in
           omega (arith, ap length t.said, length-append t.before (layout t.start is ++ t.after), length-append (layout t.start is) t.after, size_layout t.start is, size_some is);
-      rooted = stands-grounded nodes is (there.start + size is - 1) (there.start + size is - 1) (omega arith) stands;
+      rooted = stands_grounded nodes is (there.start + size is - 1) (there.start + size is - 1) (omega arith) stands;
     }
 
-    pub formula-cells : (rule_of stored_lists nodes (get_or (formulas_of 0 cs) r no_formula)).cells ≡ (formula_rule lists is).cells
-    formula-cells = ap (λ f. (rule_of stored_lists nodes f).cells) there.is ∙ cells_there (cells_of is)
+    pub formula_cells : (rule_of stored_lists nodes (get_or (formulas_of 0 cs) r no_formula)).cells ≡ (formula_rule lists is).cells
+    formula_cells = ap (λ f. (rule_of stored_lists nodes f).cells) there.is ∙ cells_there (cells_of is)
 
-    pub formula-permits : (row : List ℕ) → (rule_of stored_lists nodes (get_or (formulas_of 0 cs) r no_formula)).permits row ≡ (formula_rule lists is).permits row
-    formula-permits row =
+    pub formula_permits : (row : List ℕ) → (rule_of stored_lists nodes (get_or (formulas_of 0 cs) r no_formula)).permits row ≡ (formula_rule lists is).permits row
+    formula_permits row =
         let root = there.start + size is - 1 in
         let said = tree (suc root) nodes root in
         ap (λ f. (rule_of stored_lists nodes f).permits row) there.is
@@ -146,7 +146,7 @@ module _ (lists : List (List ℤ)) (short : Short lists) (few : length lists ≤
         ∙ and_same (listed stored_lists (cells_of is) row) (within lists (cells_of is) row) (truth (assigned stored_lists unset (cells_of is) row) said)
         (truth (numbers_at lists (replicate 64 (pos 0)) (cells_of is) row) is)
         (listed_same lists z short (cells_of is) row)
-        (λ t. stands-true nodes (assigned stored_lists unset (cells_of is) row) is root root (omega arith) stands
+        (λ t. stands_true nodes (assigned stored_lists unset (cells_of is) row) is root root (omega arith) stands
         ∙ ap (λ f. truth f is) (numbers_same lists z short unset (cells_of is) row (cells_below (length lists) is good_at.known) t))
 
   pub formulas_well_formed : length cs ≤ 64 → WellFormed nodes (formulas_of 0 cs)

@@ -138,11 +138,11 @@ module _ (lists : List (List ℤ)) (xs : List RowsField) (q : List ℕ) (few : l
   }
 
   module _ (r : ℕ) (h : r < length xs) where
-    pub rows-cells : (rule_of bytes (get_or (rules_of 0 xs) r no_rows)).cells ≡ (rows_rule (get_or xs r no_field)).cells
-    rows-cells = ap (λ y. (rule_of bytes y).cells) (there r h).is ∙ cells_there (get_or xs r no_field).cells
+    pub rows_cells : (rule_of bytes (get_or (rules_of 0 xs) r no_rows)).cells ≡ (rows_rule (get_or xs r no_field)).cells
+    rows_cells = ap (λ y. (rule_of bytes y).cells) (there r h).is ∙ cells_there (get_or xs r no_field).cells
 
-    pub rows-permits : (row : List ℕ) → (rule_of bytes (get_or (rules_of 0 xs) r no_rows)).permits row ≡ (rows_rule (get_or xs r no_field)).permits row
-    rows-permits row =
+    pub rows_permits : (row : List ℕ) → (rule_of bytes (get_or (rules_of 0 xs) r no_rows)).permits row ≡ (rows_rule (get_or xs r no_field)).permits row
+    rows_permits row =
         let t = there r h in
         let x = get_or xs r no_field in
         ap (λ y. (rule_of bytes y).permits row) t.is ∙ by_kind x t.start t.before t.after bytes t.long t.said (λ i k. ((good_at r h).rows i k).wide) x.kind row

@@ -15,8 +15,8 @@ use Rattle.sheets.specs.Stored.{Contents, stored, extent_of, places_of, rules_of
 use Rattle.sheets.specs.Meaning.{Means, rule_at, rows_rule, formula_rule, no_rows as no_field, no_condition}
 use Rattle.sheet_books.specs.Books.{Holds, Lends, book_of}
 use Rattle.sheet_books.proofs.Parts.{filled_take, each_map}
-use Rattle.sheet_books.proofs.StoredRows.{rules_length, rows_well_formed, rows-cells, rows-permits}
-use Rattle.sheet_books.proofs.StoredFormulas.{formulas_length, formulas_well_formed, formula-cells, formula-permits}
+use Rattle.sheet_books.proofs.StoredRows.{rules_length, rows_well_formed, rows_cells, rows_permits}
+use Rattle.sheet_books.proofs.StoredFormulas.{formulas_length, formulas_well_formed, formula_cells, formula_permits}
 use Rattle.sheet_books.proofs.StoredNumbers.{Short, spread}
 
 module _ (before : Contents) (s : Sheet) (g : Good s) where
@@ -64,8 +64,8 @@ module _ (before : Contents) (s : Sheet) (g : Good s) where
     abbrev by_rows : Rule
     by_rows = rows-rule-of c.places (get_or borrowed.rules r no_rows)
 
-    abbrev by-formula : ℕ → Rule
-    by-formula k = formula-rule-of (lists_of borrowed.lengths c.numbers) c.nodes (get_or borrowed.formulas k no_formula)
+    abbrev by_formula : ℕ → Rule
+    by_formula k = formula-rule-of (lists_of borrowed.lengths c.numbers) c.nodes (get_or borrowed.formulas k no_formula)
 
     low : r < length s.rows → ((book_of borrowed).rule r ≡ by_rows) × (rule_at s r ≡ rows_rule (get_or s.rows r no_field))
     low l = (
@@ -73,12 +73,12 @@ module _ (before : Contents) (s : Sheet) (g : Good s) where
       cond-true (ltb r (length s.rows)) _ _ (lt-ltb r (length s.rows) l),
     )
 
-    high : length s.rows ≤ r → ((book_of borrowed).rule r ≡ by-formula (r - length s.rows)) × (rule_at s r ≡ formula_rule s.lists (get_or s.formulas (r - length s.rows) no_condition))
+    high : length s.rows ≤ r → ((book_of borrowed).rule r ≡ by_formula (r - length s.rows)) × (rule_at s r ≡ formula_rule s.lists (get_or s.formulas (r - length s.rows) no_condition))
     high l =
         let n = rules_length 0 s.rows in (
           cond-false (ltb r (length borrowed.rules)) by_rows _ (le-ltb r (length borrowed.rules) (omega arith))
-              ∙ cond-true (ltb r 65535) (by-formula (r - length borrowed.rules)) no_rule (lt-ltb r 65535 (omega arith))
-              ∙ ap (λ k. by-formula (r - k)) n,
+              ∙ cond-true (ltb r 65535) (by_formula (r - length borrowed.rules)) no_rule (lt-ltb r 65535 (omega arith))
+              ∙ ap (λ k. by_formula (r - k)) n,
           cond-false (ltb r (length s.rows)) _ _ (le-ltb r (length s.rows) l),
         )
 
@@ -87,21 +87,21 @@ module _ (before : Contents) (s : Sheet) (g : Good s) where
 
     cells_same : ((book_of borrowed).rule r).cells ≡ (rule_at s r).cells
     cells_same = ⊎_elim
-        (λ l. ap (λ x. x.cells) (low l).0 ∙ rows-cells s.lists s.rows places_after g.few_cells g.rows r l ∙ ap (λ x. x.cells) (sym (low l).1))
-        (λ l. ap (λ x. x.cells) (high l).0 ∙ formula-cells s.lists short g.few_cells s.formulas g.formulas nodes_after numbers_after (r - length s.rows) (past l) ∙ ap (λ x. x.cells) (sym (high l).1))
+        (λ l. ap (λ x. x.cells) (low l).0 ∙ rows_cells s.lists s.rows places_after g.few_cells g.rows r l ∙ ap (λ x. x.cells) (sym (low l).1))
+        (λ l. ap (λ x. x.cells) (high l).0 ∙ formula_cells s.lists short g.few_cells s.formulas g.formulas nodes_after numbers_after (r - length s.rows) (past l) ∙ ap (λ x. x.cells) (sym (high l).1))
         (cases_lt r (length s.rows))
 
-    permits-same : (row : List ℕ) → ((book_of borrowed).rule r).permits row ≡ (rule_at s r).permits row
-    permits-same row = ⊎_elim
-        (λ l. ap (λ x. x.permits row) (low l).0 ∙ rows-permits s.lists s.rows places_after g.few_cells g.rows r l row ∙ ap (λ x. x.permits row) (sym (low l).1))
-        (λ l. ap (λ x. x.permits row) (high l).0 ∙ formula-permits s.lists short g.few_cells s.formulas g.formulas nodes_after numbers_after (r - length s.rows) (past l) row ∙ ap (λ x. x.permits row) (sym (high l).1))
+    permits_same : (row : List ℕ) → ((book_of borrowed).rule r).permits row ≡ (rule_at s r).permits row
+    permits_same row = ⊎_elim
+        (λ l. ap (λ x. x.permits row) (low l).0 ∙ rows_permits s.lists s.rows places_after g.few_cells g.rows r l row ∙ ap (λ x. x.permits row) (sym (low l).1))
+        (λ l. ap (λ x. x.permits row) (high l).0 ∙ formula_permits s.lists short g.few_cells s.formulas g.formulas nodes_after numbers_after (r - length s.rows) (past l) row ∙ ap (λ x. x.permits row) (sym (high l).1))
         (cases_lt r (length s.rows))
 
   means : Means s (book_of borrowed)
   means = record {
     count = omega (arith, rules_length 0 s.rows, formulas_length 0 s.formulas, g.few_rules);
     cells = cells_same;
-    permits = λ r row h. permits-same r h row;
+    permits = λ r row h. permits_same r h row;
   }
 
   -- the parts that the extent counts

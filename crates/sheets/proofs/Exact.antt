@@ -86,19 +86,19 @@ module _ (s t : Sheet) (g : Good s) (h : Good t) (p q : List ℕ) (e : bytes_of 
   -- the same sheet, or one goes on with a good field
   pub data Compared : Type 0 where
     same : s ≡ t → p ≡ q → Compared
-    first-longer : (u : Sheet) (f : Field) (r : List ℕ) → Adds t f u → q ≡ field_bytes f ++ r → Compared
-    second-longer : (u : Sheet) (f : Field) (r : List ℕ) → Adds s f u → p ≡ field_bytes f ++ r → Compared
+    first_longer : (u : Sheet) (f : Field) (r : List ℕ) → Adds t f u → q ≡ field_bytes f ++ r → Compared
+    second_longer : (u : Sheet) (f : Field) (r : List ℕ) → Adds s f u → p ≡ field_bytes f ++ r → Compared
 
   pub compared : Compared
   compared = ⊎_elim (λ k. left k.0 k.1 k.2) (λ k. right k.0 k.1 k.2) (fields_split (fields_of s) (fields_of t) p q e)
     where
       left : (hs : List Field) → fields_of s ≡ fields_of t ++ hs → q ≡ flat_map field_bytes hs ++ p → Compared
       left [] i j = same (fields_same s t g h (i ∙ append-nil (fields_of t))) (sym j)
-      left (f ∷ hs) i j = let n = next_good t s f hs h g i in first-longer n.0 f (flat_map field_bytes hs ++ p) n.1 (j ∙ append_assoc (field_bytes f) (flat_map field_bytes hs) p)
+      left (f ∷ hs) i j = let n = next_good t s f hs h g i in first_longer n.0 f (flat_map field_bytes hs ++ p) n.1 (j ∙ append_assoc (field_bytes f) (flat_map field_bytes hs) p)
 
       right : (hs : List Field) → fields_of t ≡ fields_of s ++ hs → p ≡ flat_map field_bytes hs ++ q → Compared
       right [] i j = same (fields_same s t g h (sym (append-nil (fields_of s)) ∙ sym i)) j
-      right (f ∷ hs) i j = let n = next_good s t f hs g h i in second-longer n.0 f (flat_map field_bytes hs ++ q) n.1 (j ∙ append_assoc (field_bytes f) (flat_map field_bytes hs) q)
+      right (f ∷ hs) i j = let n = next_good s t f hs g h i in second_longer n.0 f (flat_map field_bytes hs ++ q) n.1 (j ∙ append_assoc (field_bytes f) (flat_map field_bytes hs) q)
 
 end_alone : {s u : Sheet} {f : Field} (r : List ℕ) → Adds s f u → 4 ∷ 0 ∷ 0 ∷ [] ≡ field_bytes f ++ r → ⊥
 end_alone r a e = adds_not_end a (sym (byte _ _ _ _ e).0)
@@ -108,13 +108,13 @@ read_unique file s t a b = go (compared s t a.good b.good _ _ (sym a.said ∙ b.
   where
     go : Compared s t a.good b.good _ _ (sym a.said ∙ b.said) → s ≡ t
     go (same e _) = e
-    go (first-longer u f r x e) = absurd (end_alone r x e)
-    go (second-longer u f r x e) = absurd (end_alone r x e)
+    go (first_longer u f r x e) = absurd (end_alone r x e)
+    go (second_longer u f r x e) = absurd (end_alone r x e)
 
 pub read_not_refused : (file : List ℕ) (s : Sheet) (e : LoadFault) → ReadAs file s → RefusedWith file e → ⊥
 read_not_refused file s e a b = go (compared s b.before a.good b.good _ _ (sym a.said ∙ b.said))
   where
     go : Compared s b.before a.good b.good _ _ (sym a.said ∙ b.said) → ⊥
     go (same _ i) = end_not_wrong (sym i) b.wrong
-    go (first-longer u f r x i) = good_not_wrong b.good.few_cells x r i b.wrong
-    go (second-longer u f r x i) = end_alone r x i
+    go (first_longer u f r x i) = good_not_wrong b.good.few_cells x r i b.wrong
+    go (second_longer u f r x i) = end_alone r x i

@@ -11,7 +11,7 @@ use Rattle.sheets.specs.declared.fault.LoadFault.TheVariants.{Cut, Tag, Many, Ru
 use Rattle.sheets.specs.Sheet.{Sheet, RowsField}
 use Rattle.sheets.specs.Reading.{Fits, cell, rows, formula, end, Full, Wrong, no_end, bad_tag, long_end, after_end, cut_head, cut_content, too_many, bad_list, bad_rows, bad_formula, RefusedWith}
 use Rattle.sheets.proofs.Wrongs.{good_not_wrong}
-use Rattle.sheets.proofs.Exact.{Compared, compared, same, first-longer, second-longer}
+use Rattle.sheets.proofs.Exact.{Compared, compared, same, first_longer, second_longer}
 
 abbrev null : {X : Type 0} → List X → Bool
 null [] = true
@@ -143,5 +143,5 @@ refused_unique file e e' a b = go (compared a.before b.before a.good b.good _ _ 
         let w : Wrong b.before (length (Rattle.sheets.specs.Sheet.bytes_of b.before)) b.rest e =
         subst (λ r. Wrong b.before (length (Rattle.sheets.specs.Sheet.bytes_of b.before)) r e) j (subst (λ (s : Sheet). Wrong s (length (Rattle.sheets.specs.Sheet.bytes_of s)) a.rest e) i a.wrong) in
         says_unique b.before _ (outcome b.before _ b.rest) e e' (wrong_says b.before _ b.rest e w) (wrong_says b.before _ b.rest e' b.wrong)
-    go (first-longer u f r x i) = absurd (good_not_wrong b.good.few_cells x r i b.wrong)
-    go (second-longer u f r x i) = absurd (good_not_wrong a.good.few_cells x r i a.wrong)
+    go (first_longer u f r x i) = absurd (good_not_wrong b.good.few_cells x r i b.wrong)
+    go (second_longer u f r x i) = absurd (good_not_wrong a.good.few_cells x r i a.wrong)

@@ -2,7 +2,7 @@ use Rattle.std.proofs.Common.{◌++◌, length, vec_items, ap, ◌∙◌}
 use Rattle.text.proofs.Appends.{made_so, after}
 use Rattle.sheets.specs.Stored.{held}
 use Rattle.listing.specs.Listing.{numbered, cell_line, list_in, rows_line, field_of, formula_lines}
-use Rattle.listing.proofs.Stored.{all_fields, file_fields, few, listing-same}
+use Rattle.listing.proofs.Stored.{all_fields, file_fields, few, listing_same}
 use Rattle.listing.proofs.listing.Goals as goal
 
 pub returns : goal.returns
@@ -19,5 +19,5 @@ returns c =
     after (vec_items c.args.out.now) cells (rows ++ formulas) c.in_ok-push_cells.ensures
     (after (vec_items c.push_cells.new.out) rows formulas c.in_ok-push_rules.ensures
     (wrote (all_fields s) (few all c.args.extent s h rules are) (is ∙ file_fields s)))
-    ∙ ap (λ x. vec_items c.args.out.now ++ x) (listing-same all c.args.extent s h rules are lengths (c.lengths.ensures.means s h)))
+    ∙ ap (λ x. vec_items c.args.out.now ++ x) (listing_same all c.args.extent s h rules are lengths (c.lengths.ensures.means s h)))
     c.push_formulas.ensures

@@ -7,7 +7,7 @@ use Rattle.calls.specs.Plays.{did, Makes}
 use Rattle.calls.specs.Runs.{StepDone}
 use Rattle.session.specs.Calls.{sheet_of, lasting_of}
 use Rattle.play.specs.Held.{Holds, latest}
-use Rattle.play.proofs.Playing.{MorePlays, drop-next, plays-more, latest-more, plays_end}
+use Rattle.play.proofs.Playing.{MorePlays, drop_next, plays_more, latest_more, plays_end}
 use Rattle.play.proofs.make_all.Goals as goal
 
 pub loop-step-init : goal.loop-step-init
@@ -31,13 +31,13 @@ loop-step-preserved g c =
     let lt : j < length n = omega (arith, c.loop-step-test.true, c.loop-step.auto.steps) in
     let long : length n ≡ length e = c.loop-step.auto.steps in
     let d = subst (λ (z : Sheet). (h : List Did) → Holds z.lengths h u.table → Makes z (StepDone k z) h (lasting_of u) x y (lasting_of v) × Holds z.lengths (did y ∷ h) v.table) i.0 c.make.ensures.makes h i.3 in
-    let t = latest-more s (StepDone k s) e n j x y lt long i.2 is refl in (
+    let t = latest_more s (StepDone k s) e n j x y lt long i.2 is refl in (
       c.make.ensures.sheet ∙ i.0,
       c.make.ensures.book ∙ i.1,
-      drop-next s (StepDone k s) e n j x y lt long i.2 is,
+      drop_next s (StepDone k s) e n j x y lt long i.2 is,
       subst (λ (z : List Did). Holds s.lengths z v.table) (sym t) d.1,
       subst (λ (z : List Did). MorePlays s (StepDone k s) (lasting_of c.args.session.now) (take (j + 1) e) (take (j + 1) (set n j y)) z (lasting_of v)) (sym t)
-          (plays-more s (StepDone k s) e n j x y lt long i.2 is d.0 i.4),
+          (plays_more s (StepDone k s) e n j x y lt long i.2 is d.0 i.4),
     )
 
 pub returns : goal.returns

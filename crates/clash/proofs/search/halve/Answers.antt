@@ -3,7 +3,7 @@ use lib.Bits.{bit_or}
 use Rattle.bits.specs.Sets.{members}
 use Rattle.cores.proofs.CoreLaw.{says_fits, room_down, room_up, room_here}
 use Rattle.clash.proofs.LogFacts.{wrote_none, wrote_more}
-use Rattle.clash.proofs.Steps.{halve-down, halve-up, halve-end}
+use Rattle.clash.proofs.Steps.{halve_down, halve_up, halve_end}
 use Rattle.clash.proofs.search.halve.Goals as goal
 
 pub loop-low-init : goal.loop-low-init
@@ -38,7 +38,7 @@ loop-low-preserved g c =
       (
         i.0.0 ++ m ∷ [],
         wrote_more c.args.log.now c.loop-low.log i.0.0 c.args.from c.loop-low.lines m (omega (arith, c.requires.lines, c.loop-low.auto.log)) i.0.1,
-        halve-up (k.runs c.args.runner.now) c.args.round.found (members c.args.round.candidates) i.0.0 lt (record { run = c.run-tried.ensures.steps; lists = e; says = says_fits r c.if-tried-eq1.false }) i.0.2,
+        halve_up (k.runs c.args.runner.now) c.args.round.found (members c.args.round.candidates) i.0.0 lt (record { run = c.run-tried.ensures.steps; lists = e; says = says_fits r c.if-tried-eq1.false }) i.0.2,
       ),
       omega arith,
       omega arith,
@@ -57,7 +57,7 @@ loop-low-preserved-then-tried-eq1 g c =
       (
         i.0.0 ++ m ∷ [],
         wrote_more c.args.log.now c.loop-low.log i.0.0 c.args.from c.loop-low.lines m (omega (arith, c.requires.lines, c.loop-low.auto.log)) i.0.1,
-        halve-down (k.runs c.args.runner.now) c.args.round.found (members c.args.round.candidates) i.0.0 lt (record { run = c.run-tried.ensures.steps; lists = e; says = c.if-tried-eq1.true }) i.0.2,
+        halve_down (k.runs c.args.runner.now) c.args.round.found (members c.args.round.candidates) i.0.0 lt (record { run = c.run-tried.ensures.steps; lists = e; says = c.if-tried-eq1.true }) i.0.2,
       ),
       i.1,
       omega arith,
@@ -72,5 +72,5 @@ returns g c =
       least = i.1;
       most = omega (arith, i.2, i.3);
       short = omega (arith, i.4.2);
-      steps = (i.0.0, i.0.1, halve-end (g.T.Runner.runs c.args.runner.now) c.args.round.found (members c.args.round.candidates) i.0.0 (let lt = c.loop-low-test.false in omega (arith, i.2)) i.0.2);
+      steps = (i.0.0, i.0.1, halve_end (g.T.Runner.runs c.args.runner.now) c.args.round.found (members c.args.round.candidates) i.0.0 (let lt = c.loop-low-test.false in omega (arith, i.2)) i.0.2);
     }

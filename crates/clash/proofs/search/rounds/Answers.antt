@@ -3,9 +3,9 @@ use lib.Bits.{bit_or}
 use Rattle.bits.specs.Sets.{members, size}
 use Rattle.cores.specs.Fit.{with_first, with_rule}
 use Rattle.cores.proofs.SetFacts.{member_has, members_subset, nth_any}
-use Rattle.cores.proofs.CoreLaw.{Ahead, says_fits, at_first, some_left, first-among, halved}
+use Rattle.cores.proofs.CoreLaw.{Ahead, says_fits, at_first, some_left, first_among, halved}
 use Rattle.clash.proofs.LogFacts.{wrote_none, wrote_more, wrote_then}
-use Rattle.clash.proofs.Steps.{round-more, round-end}
+use Rattle.clash.proofs.Steps.{round_more, round_end}
 use Rattle.clash.proofs.search.rounds.Goals as goal
 
 pub rounds-init : goal.rounds-init
@@ -48,7 +48,7 @@ returns-then-alone-eq1 g c =
       steps = (
         i.0.0 ++ m ∷ [],
         wrote_more c.args.log.now c.rounds.log i.0.0 c.args.from c.rounds.lines m (omega (arith, i.2, c.rounds.auto.log)) i.0.1,
-        round-end (k.runs c.args.runner.now) (members c.args.candidates) i.0.0 e (record { run = c.run-alone.ensures.steps; lists = c.run-alone.ensures.lists; says = c.if-alone-eq1.true }) i.0.2,
+        round_end (k.runs c.args.runner.now) (members c.args.candidates) i.0.0 e (record { run = c.run-alone.ensures.steps; lists = c.run-alone.ensures.lists; says = c.if-alone-eq1.true }) i.0.2,
       );
     }
 
@@ -67,7 +67,7 @@ halve-halved-requires g c =
         free = omega (arith, c.run-alone.auto.work, c.rounds.auto.work, c.requires.room.free);
         same = c.run-alone.auto.sets ∙ c.rounds.auto.sets ∙ c.requires.room.same;
       };
-      ready = λ j. (k.laws p).part (with_first c.rounds.found j (members d)) d (first-among (k.runs p) (k.fits p) (k.laws p).lawful d (members d) (λ q h. (member_has d q h).1) (members_subset d) j i.1) c.requires.ready;
+      ready = λ j. (k.laws p).part (with_first c.rounds.found j (members d)) d (first_among (k.runs p) (k.fits p) (k.laws p).lawful d (members d) (λ q h. (member_has d q h).1) (members_subset d) j i.1) c.requires.ready;
       some = some;
       few = i.3;
       lines = simp length-set (omega (arith, i.2, c.rounds.auto.log));
@@ -96,7 +96,7 @@ rounds-preserved g c =
       (
         (i.0.0 ++ m ∷ []) ++ h.0,
         wrote_then (wrote_more c.args.log.now c.rounds.log i.0.0 c.args.from c.rounds.lines m (omega (arith, i.2, c.rounds.auto.log)) i.0.1) h.1,
-        round-more (k.runs p) (members d) i.0.0 (record { run = c.run-alone.ensures.steps; lists = c.run-alone.ensures.lists; says = says }) h.2 e i.0.2,
+        round_more (k.runs p) (members d) i.0.0 (record { run = c.run-alone.ensures.steps; lists = c.run-alone.ensures.lists; says = says }) h.2 e i.0.2,
       ),
       subst (λ (y : ℕ). Ahead (k.runs p) (k.fits p) (k.laws p).lawful d (members d) y (j - 1)) e
           (halved (k.runs p) (k.fits p) (k.laws p).lawful d (members d) (λ q l. (member_has d q l).1) (members_subset d) i.1 f h.2),

@@ -5,7 +5,7 @@ use Rattle.formula_book.specs.Trees.{tree}
 use Rattle.formula_book.specs.Formulas.{number_at}
 use Rattle.formula_book.specs.Support.{Tried, Met, lists_of}
 use Rattle.formula_book.proofs.Grounds.{rooted_standing, grounded_stands}
-use Rattle.formula_book.proofs.Finding.{last_yes, last_no, step-yes, step-no}
+use Rattle.formula_book.proofs.Finding.{last_yes, last_no, step_yes, step_no}
 use Rattle.formula_book.proofs.search.+goes_on.Goals as goal
 use Rattle.formula_book.proofs.search.+goes_on.Goals.{then-is_tried+else-goes_on, else-is_tried}
 
@@ -27,7 +27,7 @@ pub returns-then-goes_on : goal.returns-then-goes_on
 returns-then-goes_on t c =
     let b = c.args.book.now in
     let l = lists_of b.lengths.now b.numbers.now in (
-      (λ _. step-yes l b.nodes.now c.args.formula.now c.args.sets.now c.args.asked.position c.args.asked.place c.args.row c.args.at (omega arith)
+      (λ _. step_yes l b.nodes.now c.args.formula.now c.args.sets.now c.args.asked.position c.args.asked.place c.args.row c.args.at (omega arith)
           c.loop-place.place (c.is_tried.ensures.0 c.if-is_tried.true)
           (subst (λ x. Met l b.nodes.now c.args.formula.now c.args.sets.now c.args.asked.position c.args.asked.place x (c.args.at + 1)) c.with_place-next.ensures (c.if-goes_on.ensures.0 refl))),
       (λ _. refl),
@@ -63,6 +63,6 @@ returns t c =
     let l = lists_of b.lengths.now b.numbers.now in (
       (λ e. absurd (false≢true e)),
       (λ m.
-          let u = step-no l b.nodes.now c.args.formula.now c.args.sets.now c.args.asked.position c.args.asked.place c.args.row c.args.at (omega arith) m in
+          let u = step_no l b.nodes.now c.args.formula.now c.args.sets.now c.args.asked.position c.args.asked.place c.args.row c.args.at (omega arith) m in
           absurd (c.loop-place.invariant u (omega (arith, u.tried.remains.0)))),
     )

@@ -1,7 +1,7 @@
 use Rattle.std.proofs.Common.{refl, arith, length-set}
 use Rattle.std.proofs.lemmas.Result.{err_from_is_err_and}
 use Rattle.sheets.specs.Stored.{held}
-use Rattle.load.proofs.Adding.{list-stored, list-extent, length_part}
+use Rattle.load.proofs.Adding.{list_stored, list_extent, length_part}
 use Rattle.load.proofs.content.cell.Goals as goal
 
 pub returns : goal.returns
@@ -20,8 +20,8 @@ returns c = record {
         list = k.list;
         good = k.good;
         said = k.said;
-        stores = list-stored before s enough good (held c.args.stores.now) is c.args.extent at k.list k.good c.requires.room _ _ _ _ k.count refl (omega arith) k.stored;
-        extent = list-extent before s enough good (held c.args.stores.now) is c.args.extent at k.list k.good c.requires.room;
+        stores = list_stored before s enough good (held c.args.stores.now) is c.args.extent at k.list k.good c.requires.room _ _ _ _ k.count refl (omega arith) k.stored;
+        extent = list_extent before s enough good (held c.args.stores.now) is c.args.extent at k.list k.good c.requires.room;
       };
 }
 

@@ -7,7 +7,7 @@ use Rattle.formulas.proofs.Layouts.{size_text}
 use Rattle.sheets.specs.declared.stores.Extent.{Extent}
 use Rattle.sheets.specs.declared.fault.RuleFault.TheVariants.{Formula as InFormula}
 use Rattle.sheets.specs.Stored.{held, formula_of}
-use Rattle.load.proofs.Adding.{formula-stored, formula-extent, length_front}
+use Rattle.load.proofs.Adding.{formula_stored, formula_extent, length_front}
 use Rattle.load.proofs.content.formula.Goals as goal
 
 pub returns : goal.returns
@@ -29,8 +29,8 @@ returns c = record {
         formula = k.is;
         good = subst (λ n. Accepted n (text k.is) k.is) cells (subst (λ l. Accepted c.args.extent.cells l k.is) k.accepted.said k.accepted);
         said = k.accepted.said;
-        stores = formula-stored before s enough good (held c.args.stores.now) is c.args.extent at k.is c.requires.formulas fits _ _ made k.nodes;
-        extent = formula-extent before s enough good (held c.args.stores.now) is c.args.extent at k.is c.requires.formulas fits _ k.count;
+        stores = formula_stored before s enough good (held c.args.stores.now) is c.args.extent at k.is c.requires.formulas fits _ _ made k.nodes;
+        extent = formula_extent before s enough good (held c.args.stores.now) is c.args.extent at k.is c.requires.formulas fits _ k.count;
       };
 }
 

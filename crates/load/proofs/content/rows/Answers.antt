@@ -2,7 +2,7 @@ use Rattle.std.proofs.Common.{◌≡◌, ◌+◌, ◌*◌, ◌≤◌, map, lengt
 use Rattle.std.proofs.lemmas.Result.{err_from_is_err_and}
 use Rattle.sheets.specs.Sheet.{GoodRows, rows_bytes}
 use Rattle.sheets.specs.Stored.{held, places_of}
-use Rattle.load.proofs.Adding.{rows-stored, rows-extent, lengths_known, places_count, places_short, length_part}
+use Rattle.load.proofs.Adding.{rows_stored, rows_extent, lengths_known, places_count, places_short, length_part}
 use Rattle.load.proofs.content.rows.Goals as goal
 
 pub returns : goal.returns
@@ -25,8 +25,8 @@ returns c = record {
         rule = k.field;
         good = g;
         said = k.said;
-        stores = rows-stored before s enough good (held c.args.stores.now) is c.args.extent at k.field c.requires.rules fits _ _ k.rule_is k.stored;
-        extent = rows-extent before s enough good (held c.args.stores.now) is c.args.extent at k.field c.requires.rules fits _ (ap (λ n. c.args.extent.places + n) count);
+        stores = rows_stored before s enough good (held c.args.stores.now) is c.args.extent at k.field c.requires.rules fits _ _ k.rule_is k.stored;
+        extent = rows_extent before s enough good (held c.args.stores.now) is c.args.extent at k.field c.requires.rules fits _ (ap (λ n. c.args.extent.places + n) count);
       };
 }
 

@@ -3,14 +3,14 @@ use Rattle.std.proofs.lemmas.Bool.{both_ways}
 use Rattle.std.proofs.lemmas.Result.{err_from_is_err_and}
 use Rattle.sheets.specs.Reading.{Wrong}
 use Rattle.load.specs.Fields.{tag_byte}
-use Rattle.load.proofs.Heads.{past, no-tag, misplaced, cut, long, beyond, ended, short, surplus, content, unfilled, headed, headed_end, unfilled_end, not_end}
+use Rattle.load.proofs.Heads.{past, no_tag, misplaced, cut, long, beyond, ended, short, surplus, content, unfilled, headed, headed_end, unfilled_end, not_end}
 use Rattle.load.proofs.head.head.Goals as goal
 
 pub returns-then-at-file : goal.returns-then-at-file
 returns-then-at-file c = record { inside = tt; room = tt; decided = λ s e. past s c.args.extent e c.args.file.now c.args.at c.if-at-file.true }
 
 pub returns-in_default : goal.returns-in_default
-returns-in_default c = record { inside = tt; room = tt; decided = λ s e. no-tag s c.args.extent e c.args.file.now c.args.at c.if-at-file.false c.in_default.ensures }
+returns-in_default c = record { inside = tt; room = tt; decided = λ s e. no_tag s c.args.extent e c.args.file.now c.args.at c.if-at-file.false c.in_default.ensures }
 
 pub returns-then-not-comes : goal.returns-then-not-comes
 returns-then-not-comes c = record {

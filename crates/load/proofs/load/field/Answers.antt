@@ -4,7 +4,7 @@ use Rattle.sheets.specs.declared.fault.LoadFault.TheVariants.{Rule}
 use Rattle.sheets.specs.Reading.{RefusedWith}
 use Rattle.load.specs.declared.tag.Tag.{Tag}
 use Rattle.load.specs.Fields.{Headed}
-use Rattle.load.proofs.Steps.{advance-list, advance-rows, advance-formula, refuse_list, refuse_rows, refuse_formula}
+use Rattle.load.proofs.Steps.{advance_list, advance_rows, advance_formula, refuse_list, refuse_rows, refuse_formula}
 use Rattle.load.proofs.load.field.Goals as goal
 
 pub returns-in_ok-extent : goal.returns-in_ok-extent
@@ -17,7 +17,7 @@ returns-in_ok-extent c = record {
       let size : c.args.at + 3 + head.length - (c.args.at + 3) ≡ head.length = omega arith in
       let part = ap (λ n. take n (drop (c.args.at + 3) file)) size in
       let k = c.in_ok-extent.ensures.adds before s enough begun.good is at in
-      advance-list file c.args.at s begun 1 head.length next _ part (c.type_inv.file (c.args.at + 2)).fits before _ _ refl k;
+      advance_list file c.args.at s begun 1 head.length next _ part (c.type_inv.file (c.args.at + 2)).fits before _ _ refl k;
 }
 
 pub returns-in_err-extent : goal.returns-in_err-extent
@@ -44,7 +44,7 @@ returns-in_ok-extent-2 c = record {
       let size : c.args.at + 3 + head.length - (c.args.at + 3) ≡ head.length = omega arith in
       let part = ap (λ n. take n (drop (c.args.at + 3) file)) size in
       let k = c.in_ok-extent-2.ensures.adds before s enough begun.good is at in
-      advance-rows file c.args.at s begun 2 head.length next _ part (c.type_inv.file (c.args.at + 2)).fits before _ _ refl k;
+      advance_rows file c.args.at s begun 2 head.length next _ part (c.type_inv.file (c.args.at + 2)).fits before _ _ refl k;
 }
 
 pub returns-in_err-extent-2 : goal.returns-in_err-extent-2
@@ -71,7 +71,7 @@ returns-in_ok-extent-3 c = record {
       let size : c.args.at + 3 + head.length - (c.args.at + 3) ≡ head.length = omega arith in
       let part = ap (λ n. take n (drop (c.args.at + 3) file)) size in
       let k = c.in_ok-extent-3.ensures.adds before s enough begun.good is at in
-      advance-formula file c.args.at s begun 3 head.length next _ part (c.type_inv.file (c.args.at + 2)).fits before _ _ refl k;
+      advance_formula file c.args.at s begun 3 head.length next _ part (c.type_inv.file (c.args.at + 2)).fits before _ _ refl k;
 }
 
 pub returns-in_err-extent-3 : goal.returns-in_err-extent-3

@@ -6,7 +6,7 @@ use Rattle.formulas.specs.declared.node.Relation.TheVariants.{Equal}
 use Rattle.formulas.specs.Tree.{compares, negates, all, any, one, text, list_text}
 use Rattle.formulas.proofs.Spans.{spans_byte}
 use Rattle.formulas.proofs.Levels.{deep_open, deep_flat, balanced}
-use Rattle.formulas.proofs.Clears.{word_not, word_and, word_or, clear-open, clear-close, clear-condition}
+use Rattle.formulas.proofs.Clears.{word_not, word_and, word_or, clear_open, clear_close, clear_condition}
 use Rattle.formulas.proofs.Layouts.{size_some, list_some, size_text, list_text_size, below_kept}
 use Rattle.formulas.proofs.Awaits.{kind_not, kind_all, kind_any, list_first}
 use Rattle.reader.specs.Read.{FirstOf}
@@ -34,7 +34,7 @@ condition-condition-requires t c =
         (
           (_, inside_not c.requires.awaits.1 i.0),
           (
-            clear-open (omega arith) (78 ∷ 79 ∷ 84 ∷ []) word_not refl c.requires.clear i.0 c.requires.deep i.1,
+            clear_open (omega arith) (78 ∷ 79 ∷ 84 ∷ []) word_not refl c.requires.clear i.0 c.requires.deep i.1,
             (deep_open i.0 refl c.requires.deep, (omega (arith, i.1), (c.requires.few, omega (arith, i.0.upto)))),
           ),
         ),
@@ -47,7 +47,7 @@ condition-returns-then-not-sees t c =
     let r = c.in_ok-after.ensures in
     record {
       read = subst (FirstOf c.args.cells c.args.bytes.now) (sym c.outside_at.ensures)
-          (not_followed (omega arith) (inside_not c.requires.awaits.1 i.0) (clear-open (omega arith) (78 ∷ 79 ∷ 84 ∷ []) word_not refl c.requires.clear i.0 c.requires.deep i.1) (deep_open i.0 refl c.requires.deep) r.read
+          (not_followed (omega arith) (inside_not c.requires.awaits.1 i.0) (clear_open (omega arith) (78 ∷ 79 ∷ 84 ∷ []) word_not refl c.requires.clear i.0 c.requires.deep i.1) (deep_open i.0 refl c.requires.deep) r.read
           (λ p. false≢true (sym c.if-not-sees.true ∙ c.sees-then-sees.ensures.test.1 p)) (λ e. absurd (false≢true e)));
       kept = r.kept;
     }
@@ -100,7 +100,7 @@ condition-conditions-requires t c =
         (
           inside_all c.requires.awaits.1 i.0,
           (
-            clear-open (omega arith) (65 ∷ 78 ∷ 68 ∷ []) word_and refl c.requires.clear i.0 c.requires.deep i.1,
+            clear_open (omega arith) (65 ∷ 78 ∷ 68 ∷ []) word_and refl c.requires.clear i.0 c.requires.deep i.1,
             (deep_open i.0 refl c.requires.deep, (omega (arith, i.1), (c.requires.few, omega (arith, i.0.upto)))),
           ),
         ),
@@ -135,7 +135,7 @@ condition-conditions-requires-then-sees-3 t c =
         (
           inside_any c.requires.awaits.1 i.0,
           (
-            clear-open (omega arith) (79 ∷ 82 ∷ []) word_or refl c.requires.clear i.0 c.requires.deep i.1,
+            clear_open (omega arith) (79 ∷ 82 ∷ []) word_or refl c.requires.clear i.0 c.requires.deep i.1,
             (deep_open i.0 refl c.requires.deep, (omega (arith, i.1), (c.requires.few, omega (arith, i.0.upto)))),
           ),
         ),
@@ -183,7 +183,7 @@ conditions-conditions-requires t c =
         (
           after_comma r.is c.requires.awaits.1 r.spans e,
           (
-            clear-close (omega arith) 44 (inr refl) (clear-condition (omega arith) r.is c.requires.clear c.requires.deep r.spans r.known r.shallow r.ends) e,
+            clear_close (omega arith) 44 (inr refl) (clear_condition (omega arith) r.is c.requires.clear c.requires.deep r.spans r.known r.shallow r.ends) e,
             (deep_flat p refl (deep_flat r.spans (balanced r.is) c.requires.deep), (c.requires.shallow, (omega (arith, c.condition.auto.nodes), omega (arith, c.condition.auto.nodes, r.count, size_text r.is, r.spans.upto)))),
           ),
         ),

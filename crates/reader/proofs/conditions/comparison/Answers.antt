@@ -1,6 +1,6 @@
 use Rattle.std.proofs.Common.{take, refl, ap, ◌∙◌, arith}
 use Rattle.formulas.proofs.Awaits.{left_side, right_side, relation_outside}
-use Rattle.formulas.proofs.Clears.{clear-side, clear-relation}
+use Rattle.formulas.proofs.Clears.{clear_side, clear_relation}
 use Rattle.formulas.proofs.Layouts.{side_some}
 use Rattle.std.proofs.lemmas.List.{take-set}
 use Rattle.reader.proofs.Refusals.{out_as, refuses}
@@ -22,7 +22,7 @@ returns-in_err-by c =
       read = out_as c.from_residual-in_err-by.result _ _ c.in_err-by.field-0.0 c.from_residual-in_err-by.ensures.1
           (refuses c.in_ok-left.after _ b.0
           (relation_outside c.args.bytes.now c.args.at c.requires.awaits.1 c.requires.plain.0 c.requires.plain.1 c.requires.plain.2 c.in_ok-left.left a.0 a.2 b.1)
-          (clear-side (omega arith) c.in_ok-left.left c.requires.clear a.0 a.1 a.2));
+          (clear_side (omega arith) c.in_ok-left.left c.requires.clear a.0 a.1 a.2));
       kept = refl;
     }
 
@@ -33,7 +33,7 @@ side-requires-2 c =
     record {
       within = o.0.within;
       awaits = right_side c.args.bytes.now c.args.at c.requires.awaits.1 c.requires.plain.0 c.requires.plain.1 c.requires.plain.2 c.in_ok-left.left c.in_ok-by.by a.0 o.0 o.1;
-      clear = clear-relation (omega arith) c.in_ok-by.by (clear-side (omega arith) c.in_ok-left.left c.requires.clear a.0 a.1 a.2) o.0;
+      clear = clear_relation (omega arith) c.in_ok-by.by (clear_side (omega arith) c.in_ok-left.left c.requires.clear a.0 a.1 a.2) o.0;
     }
 
 pub returns : goal.returns

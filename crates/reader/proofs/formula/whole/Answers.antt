@@ -7,7 +7,7 @@ use Rattle.formulas.proofs.Clears.{clear_start}
 use Rattle.formulas.proofs.Layouts.{size_text}
 use Rattle.reader.specs.Mentions.{Holds, mentioned}
 use Rattle.reader.specs.Read.{FirstOf}
-use Rattle.reader.proofs.Wholes.{junk_behind, part, no_cell, many-cells, formula-read}
+use Rattle.reader.proofs.Wholes.{junk_behind, part, no_cell, many_cells, formula_read}
 use Rattle.reader.proofs.formula.whole.Goals as goal
 
 pub condition-requires : goal.condition-requires
@@ -50,7 +50,7 @@ pub returns-then-seen-gt-MOST : goal.returns-then-seen-gt-MOST
 returns-then-seen-gt-MOST c =
     let k = c.in_ok-end.ensures in
     record {
-      read = many-cells (omega arith) k.read c.if-end-bytes.false c.cells_of-seen.result
+      read = many_cells (omega arith) k.read c.if-end-bytes.false c.cells_of-seen.result
           (subst (λ l. Holds (noted [] (mentioned l)) c.cells_of-seen.result) (part (omega arith) k.read c.if-end-bytes.false c.requires.room) c.cells_of-seen.ensures) c.if-seen-gt-MOST.true;
       kept = k.kept;
     }
@@ -64,7 +64,7 @@ pub returns : goal.returns
 returns c =
     let k = c.in_ok-end.ensures in
     record {
-      read = formula-read (omega arith) k.read c.if-end-bytes.false c.cells_of-seen.result
+      read = formula_read (omega arith) k.read c.if-end-bytes.false c.cells_of-seen.result
           (subst (λ l. Holds (noted [] (mentioned l)) c.cells_of-seen.result) (part (omega arith) k.read c.if-end-bytes.false c.requires.room) c.cells_of-seen.ensures) c.if-seen-eq0.false c.if-seen-gt-MOST.false;
       kept = k.kept;
     }

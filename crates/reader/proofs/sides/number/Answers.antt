@@ -3,7 +3,7 @@ use Rattle.formulas.specs.Tree.{numeral}
 use Rattle.formulas.specs.Reading.{Spans}
 use Rattle.formulas.proofs.Firsts.{first_range}
 use Rattle.formulas.proofs.Tokens.{digits_outside, leading_outside, digits_large}
-use Rattle.formulas.proofs.Clears.{clear-digits}
+use Rattle.formulas.proofs.Clears.{clear_digits}
 use Rattle.reader.proofs.Refusals.{out_as, refuses, zero_of}
 use Rattle.reader.proofs.sides.number.Goals as goal
 
@@ -25,4 +25,4 @@ returns-then-digit_at c =
     let z = zero_of c.in_ok-value.value c.if-value-gt-LIMIT.false v.1 d in
     λ cells clear. refuses c.in_ok-value.end _ c.outside_at.ensures
     (leading_outside c.requires.awaits (subst (λ n. Spans c.args.bytes.now c.args.at (numeral n) c.in_ok-value.end) z v.0) d)
-    (clear-digits v.0 c.if-value-gt-LIMIT.false (inr z) clear)
+    (clear_digits v.0 c.if-value-gt-LIMIT.false (inr z) clear)

@@ -1,7 +1,7 @@
 use Rattle.std.proofs.Common.{sym, refl, ◌∙◌, inl, inr, arith}
 use Rattle.std.proofs.lemmas.Bool.{false≢true}
 use Rattle.formulas.proofs.Spans.{spans_byte, spans_none, spans_join}
-use Rattle.formulas.proofs.Tokens.{digits-plus, digits-minus}
+use Rattle.formulas.proofs.Tokens.{digits_plus, digits_minus}
 use Rattle.reader.proofs.Refusals.{out_as, sign_fresh, sign_clear}
 use Rattle.reader.proofs.sides.shift.Goals as goal
 
@@ -9,7 +9,7 @@ pub number-requires : goal.number-requires
 number-requires c =
     let e = c.sees.ensures.test.0 c.if-sees.true in
     let h = c.sees.ensures.inside c.if-sees.true in
-    record { within = omega arith; awaits = digits-plus c.requires.awaits c.args.cell c.requires.named e; fresh = sign_fresh c.args.bytes.now c.args.at 43 e (inl refl) }
+    record { within = omega arith; awaits = digits_plus c.requires.awaits c.args.cell c.requires.named e; fresh = sign_fresh c.args.bytes.now c.args.at 43 e (inl refl) }
 
 pub returns-in_err-value : goal.returns-in_err-value
 returns-in_err-value c =
@@ -27,7 +27,7 @@ pub number-requires-then-sees-2 : goal.number-requires-then-sees-2
 number-requires-then-sees-2 c =
     let e = c.sees-2.ensures.test.0 c.if-sees-2.true in
     let h = c.sees-2.ensures.inside c.if-sees-2.true in
-    record { within = omega arith; awaits = digits-minus c.requires.awaits c.args.cell c.requires.named e; fresh = sign_fresh c.args.bytes.now c.args.at 45 e (inr refl) }
+    record { within = omega arith; awaits = digits_minus c.requires.awaits c.args.cell c.requires.named e; fresh = sign_fresh c.args.bytes.now c.args.at 45 e (inr refl) }
 
 pub returns-in_err-value-2 : goal.returns-in_err-value-2
 returns-in_err-value-2 c =

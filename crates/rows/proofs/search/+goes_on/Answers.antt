@@ -2,7 +2,7 @@ use Rattle.std.proofs.Common.{◌≡◌, get_or, refl, subst, ⊎_elim, arith}
 use Rattle.std.proofs.lemmas.Bool.{false≢true, cases_lt, not-true, not_from_false, cases_Bool}
 use Rattle.std.proofs.lemmas.Bool.Decides.{not_from_Decides}
 use Rattle.rows.specs.Support.{Allowed}
-use Rattle.rows.proofs.Finding.{last_yes, last_no, step-yes, step-no}
+use Rattle.rows.proofs.Finding.{last_yes, last_no, step_yes, step_no}
 use Rattle.rows.proofs.search.+goes_on.Goals as goal
 use Rattle.rows.proofs.search.+goes_on.Goals.{then-has+else-goes_on, else-has}
 
@@ -20,7 +20,7 @@ returns-then-at-rule t c =
 
 pub returns-then-goes_on : goal.returns-then-goes_on
 returns-then-goes_on t c = (
-  (λ _. step-yes c.args.bytes.now c.args.rule.now c.args.masks c.args.places c.args.at c.loop-place.place (omega arith)
+  (λ _. step_yes c.args.bytes.now c.args.rule.now c.args.masks c.args.places c.args.at c.loop-place.place (omega arith)
       (c.has.ensures.0 c.if-has.true) (c.if-goes_on.ensures.0 refl)),
   (λ _. refl),
 )
@@ -31,7 +31,7 @@ loop-place-preserved t c =
       | then-has+else-goes_on w ↦
           λ u h. ⊎_elim
           (λ b. c.loop-place.invariant u b)
-          (λ b. step-no c.args.bytes.now c.args.rule.now c.args.masks c.args.places c.args.at c.loop-place.place (omega arith)
+          (λ b. step_no c.args.bytes.now c.args.rule.now c.args.masks c.args.places c.args.at c.loop-place.place (omega arith)
           (λ found. false≢true (w.if-goes_on.ensures.1 found)) u (omega arith))
           (cases_lt (get_or u.row c.args.at 0) c.loop-place.place)
       | else-has w ↦

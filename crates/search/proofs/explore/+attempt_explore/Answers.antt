@@ -4,7 +4,7 @@ use Rattle.network.specs.Book.{Remains}
 use Rattle.choosers.specs.declared.chooser.Event.TheVariants.{Failed}
 use Rattle.runs.specs.Settle.{State, state, out_of}
 use Rattle.runs.specs.Run.{Explores.filled, TryFails}
-use Rattle.runs.proofs.Chosen.{named-within}
+use Rattle.runs.proofs.Chosen.{named_within}
 use Rattle.search.specs.Room.{Able}
 use Rattle.search.proofs.Rooms.{able_alone, frame_room}
 use Rattle.search.proofs.Tries.{
@@ -73,7 +73,7 @@ explore-returns-then-cell g t c = c.tries.invariant.0 _ _ _ (filled (sym c.choos
 
 pub explore-bounds-sets-cell : goal.explore-bounds-sets-cell
 explore-bounds-sets-cell g t c =
-    (named-within (g.B.RuleBook.meaning c.args.book.now) c.args.listed c.tries.sets c.tries.weights g.C.Chooser.meaning g.C.Chooser.laws c.tries.chooser
+    (named_within (g.B.RuleBook.meaning c.args.book.now) c.args.listed c.tries.sets c.tries.weights g.C.Chooser.meaning g.C.Chooser.laws c.tries.chooser
     c.choose-cell.result c.choose-cell.ensures c.if-cell.false).0
 
 pub explore-split_at_mut-before-requires : goal.explore-split_at_mut-before-requires

@@ -2,7 +2,7 @@ use Rattle.std.proofs.Common.{false, get_or, sym, ap, ◌∙◌, arith}
 use Rattle.calls.specs.History.{set_where}
 use Rattle.calls.proofs.Fillings.{few_cells, few_rules, listed}
 use Rattle.session.specs.Calls.{sheet_of}
-use Rattle.session.proofs.Fitting.{table_ready, solved-filled, solved-clashed}
+use Rattle.session.proofs.Fitting.{table_ready, solved_filled, solved_clashed}
 use Rattle.session.proofs.session.Session.solve.Goals as goal
 
 pub set_starts-requires : goal.set_starts-requires
@@ -30,7 +30,7 @@ write_lowest-requires g c = omega (arith, c.fit_weighted-fitted.auto.sets, c.req
 pub returns-then-fitted-eq0 : goal.returns-then-fitted-eq0
 returns-then-fitted-eq0 g c =
     let s = c.args.self.now in
-    solved-filled g.B.RuleBook.meaning g.C.Chooser.meaning g.C.Chooser.laws s (g.B.RuleBook.laws s.book) c.requires.opens
+    solved_filled g.B.RuleBook.meaning g.C.Chooser.meaning g.C.Chooser.laws s (g.B.RuleBook.laws s.book) c.requires.opens
     c.set_starts.ensures (c.rules_on-on.ensures ∙ ap (set_where (λ r. get_or s.table.switches r false)) c.count.ensures)
     c.fit_weighted-fitted.ensures (c.fit_weighted-fitted.auto.sets ∙ c.requires.sets) c.args.filling.now c.write_lowest.new.filling c.if-fitted-eq0.true
     (omega (arith, c.write_lowest.auto.filling, c.fit_weighted-fitted.auto.sets, c.requires.sets, c.requires.filling, few_cells (sheet_of g.B.RuleBook.meaning s) c.requires.opens))
@@ -39,6 +39,6 @@ returns-then-fitted-eq0 g c =
 pub returns-else-fitted-eq0 : goal.returns-else-fitted-eq0
 returns-else-fitted-eq0 g c =
     let s = c.args.self.now in
-    solved-clashed g.B.RuleBook.meaning g.C.Chooser.meaning g.C.Chooser.laws s (g.B.RuleBook.laws s.book) c.requires.opens
+    solved_clashed g.B.RuleBook.meaning g.C.Chooser.meaning g.C.Chooser.laws s (g.B.RuleBook.laws s.book) c.requires.opens
     c.set_starts.ensures (c.rules_on-on.ensures ∙ ap (set_where (λ r. get_or s.table.switches r false)) c.count.ensures)
     c.fit_weighted-fitted.ensures (c.fit_weighted-fitted.auto.sets ∙ c.requires.sets) c.args.filling.now c.if-fitted-eq0.false
