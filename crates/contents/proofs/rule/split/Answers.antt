@@ -21,7 +21,7 @@ returns-then-not-are_known c kind cells rest h =
     let count = c.args.count in
     let cs = c.split_at.result.0.now in
     let rs = c.split_at.result.1.now in
-    let same = head_cells content count kind cells rest cs rs h c.split_at.ensures.by_index.0 c.split_at.ensures.front-len in
+    let same = head_cells content count kind cells rest cs rs h c.split_at.ensures.by_index.0 c.split_at.ensures.front_len in
     let w = head_width content count kind cells rest h in
     elim c.then-not-are_known.branch [
       | then-not-are_known-via-then-not-are_known w' ↦
@@ -36,6 +36,6 @@ pub returns : goal.returns
 returns c =
     let content = c.args.content.now in
     let cs = c.split_at.result.0.now in
-    headed content c.args.count c.in_ok-kind.kind cs c.split_at.result.1.now (omega arith) c.in_ok-kind.ensures c.split_at.ensures.front-len c.split_at.ensures.by_index.0
+    headed content c.args.count c.in_ok-kind.kind cs c.split_at.result.1.now (omega arith) c.in_ok-kind.ensures c.split_at.ensures.front_len c.split_at.ensures.by_index.0
     (c.are_known.ensures.0 c.if-not-are_known.false)
     (subst (λ (l : List ℕ). GoodCells (get_or content 1 0) l) c.stored.ensures (c.are_good.ensures.0 c.if-not-are_good.false))
