@@ -1,4 +1,4 @@
-use Rattle.std.proofs.Common.{◌≡◌, [], ◌∷◌, ◌++◌, vec_items, codes, sym, refl, ap, ◌∙◌, w32}
+use Rattle.std.proofs.Common.{[], ◌∷◌, ◌++◌, vec_items, ap, ◌∙◌, w32}
 use Rattle.formulas.specs.Tree.{numeral, number_text}
 use Rattle.text.proofs.Appends.{made_so, after}
 use Rattle.std.proofs.lemmas.Int.{to_z-of_z}

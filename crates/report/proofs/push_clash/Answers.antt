@@ -1,6 +1,6 @@
-use Rattle.std.proofs.Common.{◌≡◌, [], ◌∷◌, ◌++◌, vec_items, codes, sym, refl, ap, ◌∙◌, arith}
-use Rattle.formulas.specs.Tree.{numeral, number_text}
-use Rattle.text.proofs.Appends.{made_so, after}
+use Rattle.std.proofs.Common.{◌≡◌, [], ◌∷◌, ◌++◌, vec_items, codes, ap, ◌∙◌, arith}
+use Rattle.formulas.specs.Tree.{numeral}
+use Rattle.text.proofs.Appends.{after}
 use Rattle.std.specs.List.{flat_map}
 use Rattle.bits.specs.Sets.{below}
 use Rattle.report.specs.Report.{rule_line}

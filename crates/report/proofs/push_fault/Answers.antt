@@ -1,5 +1,5 @@
-use Rattle.std.proofs.Common.{◌≡◌, [], ◌∷◌, ◌++◌, vec_items, codes, sym, refl, ap, ◌∙◌}
-use Rattle.formulas.specs.Tree.{numeral, number_text}
+use Rattle.std.proofs.Common.{[], ◌∷◌, ◌++◌, vec_items, codes, ap, ◌∙◌}
+use Rattle.formulas.specs.Tree.{numeral}
 use Rattle.text.proofs.Appends.{made_so, after}
 use Rattle.report.specs.Report.{fault_text}
 use Rattle.report.proofs.push_fault.Goals as goal

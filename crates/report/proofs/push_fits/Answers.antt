@@ -1,6 +1,6 @@
-use Rattle.std.proofs.Common.{◌≡◌, ℕ, ◌+◌, ◌*◌, List, [], ◌∷◌, ◌++◌, get_or, ℤ, pos, vec_items, codes, sym, refl, ap, ◌∙◌, arith, w32}
-use Rattle.formulas.specs.Tree.{numeral, number_text}
-use Rattle.text.proofs.Appends.{made_so, after}
+use Rattle.std.proofs.Common.{◌≡◌, ℕ, ◌+◌, ◌*◌, List, [], ◌∷◌, ◌++◌, get_or, ℤ, pos, vec_items, codes, ap, ◌∙◌, arith, w32}
+use Rattle.formulas.specs.Tree.{numeral}
+use Rattle.text.proofs.Appends.{after}
 use Rattle.std.specs.List.{range_with_len, flat_map}
 use Rattle.std.proofs.lemmas.Int.{to_z-of_z}
 use Rattle.report.specs.Report.{cell_line}

@@ -1,5 +1,5 @@
-use Rattle.std.proofs.Common.{◌≡◌, true, false, cond, [], ◌∷◌, ◌++◌, vec_items, codes, sym, refl, ap, ◌∙◌}
-use Rattle.formulas.specs.Tree.{numeral, number_text}
+use Rattle.std.proofs.Common.{◌≡◌, true, false, [], ◌∷◌, ◌++◌, vec_items, codes, sym, refl, ap, ◌∙◌}
+use Rattle.formulas.specs.Tree.{numeral}
 use Rattle.text.proofs.Appends.{made_so, after}
 use Rattle.std.proofs.lemmas.List.{append-nil}
 use Rattle.std.proofs.lemmas.Bool.{cond-true, cond-false, both_ways, eq-eqb, ne_eqb}
