@@ -1,12 +1,12 @@
 -- What the stores hold after one more field. Assumes nothing.
-use Rattle.std.proofs.Common.{◌≡◌, ℕ, suc, ◌+◌, ◌-◌, ◌*◌, ◌<◌, ◌≤◌, List, [], ◌∷◌, ◌++◌, map, length, get_or, take, drop, set, replicate, ℤ, pos, sym, refl, ap, ◌∙◌, subst, suc-mul, zero-mul, arith, length-append, length-drop, length-take}
+use Rattle.std.proofs.Common.{◌≡◌, ℕ, suc, ◌+◌, ◌-◌, ◌*◌, ◌<◌, ◌≤◌, List, [], ◌∷◌, ◌++◌, map, length, get_or, take, drop, set, replicate, ℤ, pos, sym, ap, ◌∙◌, suc-mul, zero-mul, arith, length-append, length-drop, length-take}
 use borrow.Rule.Slice.PartMut.{put_mid}
-use lib.ListN.{length-map, length-replicate}
+use lib.ListN.{length-map}
 use Rattle.std.specs.List.{flat_map}
 use Rattle.std.proofs.lemmas.List.{map_push, length_push, drop-replicate, take_at}
 use Rattle.formulas.specs.declared.node.Node.{Node}
 use Rattle.formulas.specs.declared.node.Node.TheVariants.{Free}
-use Rattle.formulas.specs.Tree.{Condition, text}
+use Rattle.formulas.specs.Tree.{Condition}
 use Rattle.formulas.specs.Layout.{size, layout}
 use Rattle.formulas.proofs.Layouts.{size_layout}
 use Rattle.reader.specs.declared.formula.Formula.{Formula}

@@ -1,11 +1,8 @@
 -- Stores of the same sizes. Assumes nothing.
-use Rattle.std.proofs.Common.{◌≡◌, map, length, replicate, ℤ, pos, sym, refl, ap, ◌∙◌, arith}
+use Rattle.std.proofs.Common.{◌≡◌, map, length, replicate, pos, sym, refl, ap, ◌∙◌, arith}
 use Rattle.std.specs.List.{flat_map}
 use lib.ListN.{length-replicate}
-use Rattle.formulas.specs.declared.node.Node.{Node}
 use Rattle.formulas.specs.declared.node.Node.TheVariants.{Free}
-use Rattle.reader.specs.declared.formula.Formula.{Formula}
-use Rattle.rows.specs.declared.rule.RowsRule.{RowsRule}
 use Rattle.sheets.specs.Sheet.{Sheet, empty}
 use Rattle.sheets.specs.Stored.{Contents, Enough, zero_rule, zero_formula, filled, places_of, rules_of, formulas_of, nodes_of, stored, zeroed}
 use Rattle.sheets.proofs.Filled.{filled_none}

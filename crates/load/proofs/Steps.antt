@@ -1,21 +1,18 @@
 -- From one field to the next. Assumes nothing.
-use Rattle.std.proofs.Common.{◌≡◌, ℕ, ◌+◌, ◌-◌, ◌*◌, ◌/◌, ◌%◌, ◌<◌, ◌≤◌, ◌≢◌, List, [], ◌∷◌, ◌++◌, length, get_or, take, drop, replicate, ℤ, sym, refl, ap, ◌∙◌, subst, inl, inr, append_assoc, arith, length-append, length-drop, take-append-drop}
+use Rattle.std.proofs.Common.{◌≡◌, ℕ, ◌+◌, ◌-◌, ◌*◌, ◌/◌, ◌%◌, ◌<◌, ◌≤◌, ◌≢◌, List, [], ◌∷◌, ◌++◌, length, get_or, take, drop, replicate, ℤ, sym, refl, ap, ◌∙◌, subst, inl, inr, append_assoc, arith, length-append, take-append-drop}
 use lib.ListN.{length-replicate}
-use Rattle.std.specs.List.{flat_map}
 use Rattle.std.proofs.lemmas.List.{drop-drop, get_or-drop, length-take-le}
 use Rattle.formulas.specs.declared.fault.Flaw.{Flaw}
-use Rattle.formulas.specs.Tree.{Condition, text}
 use Rattle.formulas.specs.Faults.{First}
 use Rattle.sheets.specs.declared.fault.RuleFault.TheVariants.{List as ListFault, Rows as RowsFault, Formula as InFormula}
 use Rattle.sheets.specs.declared.fault.LoadFault.{LoadFault}
 use Rattle.sheets.specs.declared.fault.LoadFault.TheVariants.{Rule}
 use Rattle.sheets.specs.declared.stores.Extent.{Extent}
-use Rattle.sheets.specs.Sheet.{Sheet, RowsField, Field, field_bytes, bytes_of, file_of, list_bytes, rows_bytes, GoodList, GoodRows, Good, empty}
+use Rattle.sheets.specs.Sheet.{Sheet, RowsField, Field, field_bytes, bytes_of, list_bytes, rows_bytes, GoodList, GoodRows, Good, empty}
 use Rattle.sheets.specs.Reading.{Fits, cell, rows, formula, end, Full, Wrong, bad_list, bad_rows, bad_formula, ReadAs, RefusedWith}
 use Rattle.sheets.specs.Stored.{Contents, Enough, filled, stored, extent_of}
 use Rattle.sheets.proofs.Adds.{Adds, adds_list, adds_rows, adds_formula, adds_good, adds_bytes}
 use Rattle.sheets.proofs.Storing.{places_within, nodes_within}
-use Rattle.load.specs.declared.next.Next.{Next}
 use Rattle.load.specs.Fields.{Content, Begun, Room, AddsList, AddsRows, AddsFormula, Advanced}
 
 -- what is said of the next field is said of the file

@@ -1,11 +1,10 @@
 -- A formula's first fault lies within its text. Assumes nothing.
-use Rattle.std.proofs.Common.{◌≡◌, ℕ, ◌+◌, ◌<◌, ◌≤◌, ltb, List, [], ◌∷◌, ◌++◌, length, drop, sym, refl, ap, ◌∙◌, subst, inl, inr, ⊎_elim, arith}
+use Rattle.std.proofs.Common.{◌≡◌, ℕ, ◌+◌, ◌≤◌, ltb, List, ◌++◌, length, drop, sym, ap, ◌∙◌, ⊎_elim, arith}
 use Rattle.std.proofs.lemmas.Bool.{cases_Bool, ltb-true, ltb-false}
 use Rattle.formulas.specs.declared.fault.Flaw.{Flaw}
 use Rattle.formulas.specs.declared.fault.Flaw.TheVariants.{Grammar, Level, Range, Cells}
 use Rattle.formulas.specs.Faults.{next, Fault, First, TooLarge}
 use Rattle.formulas.proofs.Spans.{next_end}
-use Rattle.formulas.proofs.Unique.{SideFirst}
 use Rattle.formulas.proofs.Firsts.{deep_within, token_first}
 
 large_within : (cells : ℕ) (s : List ℕ) (k : ℕ) → TooLarge cells s k → k ≤ length s

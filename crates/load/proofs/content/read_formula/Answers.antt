@@ -1,4 +1,4 @@
-use Rattle.std.proofs.Common.{refl, arith, rules}
+use Rattle.std.proofs.Common.{refl, rules}
 use Rattle.load.proofs.Within.{first_within}
 use Rattle.load.proofs.content.read_formula.Goals as goal
 

@@ -1,6 +1,5 @@
-use Rattle.std.proofs.Common.{◌≡◌, ◌+◌, ◌*◌, ◌≤◌, map, length, take, sym, refl, ap, ◌∙◌, subst, arith, length-set}
+use Rattle.std.proofs.Common.{◌≡◌, ◌+◌, ◌*◌, ◌≤◌, length, refl, ap, arith, length-set}
 use Rattle.std.proofs.lemmas.Result.{err_from_is_err_and}
-use Rattle.sheets.specs.Sheet.{GoodRows, rows_bytes}
 use Rattle.sheets.specs.Stored.{held, places_of}
 use Rattle.load.proofs.Adding.{rows_stored, rows_extent, lengths_known, places_count, places_short, length_part}
 use Rattle.load.proofs.content.rows.Goals as goal

@@ -1,4 +1,4 @@
-use Rattle.std.proofs.Common.{◌≡◌, ◌+◌, ◌<◌, ◌≤◌, false, length, get_or, drop, sym, refl, ap, ◌∙◌, subst, ⊎_elim, arith}
+use Rattle.std.proofs.Common.{◌+◌, ◌≤◌, false, length, drop, sym, refl, ap, subst, ⊎_elim, arith}
 use Rattle.std.proofs.lemmas.Bool.{both_ways}
 use Rattle.std.proofs.lemmas.Result.{err_from_is_err_and}
 use Rattle.sheets.specs.Reading.{Wrong}
@@ -26,8 +26,8 @@ returns-then-file-at-lt3 c = record {
   decided = λ s e. cut s c.args.extent e c.args.file.now c.args.at c.in-Some.tag c.if-at-file.false c.in-Some.ensures (c.if-not-comes.ensures.0 refl) (omega arith);
 }
 
-pub returns-in_err-check_end : goal.returns-in_err-check_end
-returns-in_err-check_end c =
+pub returns-in_err-check_end-in-End : goal.returns-in_err-check_end-in-End
+returns-in_err-check_end-in-End c =
     let p = err_from_is_err_and c.from_residual.result c.from_residual.ensures.1 in
     let room : c.args.at + 3 ≤ length c.args.file.now = omega arith in
     let four = ap tag_byte c.in-End.is in
@@ -38,12 +38,12 @@ returns-in_err-check_end c =
           ⊎_elim
           (λ a. subst (Wrong s c.args.at (drop c.args.at c.args.file.now)) (sym a.0) (long s c.args.extent e c.args.file.now c.args.at c.in-Some.tag c.in-Some.ensures room four a.1))
           (λ a. subst (Wrong s c.args.at (drop c.args.at c.args.file.now)) (sym a.0) (beyond s c.args.extent e c.args.file.now c.args.at c.in-Some.tag c.in-Some.ensures room four a.1 a.2))
-          c.in_err-check_end.ensures;
+          c.in_err-check_end-in-End.ensures;
     })
 
-pub returns-in_err-check_content : goal.returns-in_err-check_content
-returns-in_err-check_content c =
-    let p = err_from_is_err_and c.from_residual-in_err-check_content.result c.from_residual-in_err-check_content.ensures.1 in
+pub returns-in_err-check_content-in-Cell : goal.returns-in_err-check_content-in-Cell
+returns-in_err-check_content-in-Cell c =
+    let p = err_from_is_err_and c.from_residual-in_err-check_content-in-Cell.result c.from_residual-in_err-check_content-in-Cell.ensures.1 in
     let room : c.args.at + 3 ≤ length c.args.file.now = omega arith in
     let other = not_end c.in-Some.tag c.in-Cell.is in
     rw (p.1, p.2) (record {
@@ -53,12 +53,12 @@ returns-in_err-check_content c =
           ⊎_elim
           (λ a. subst (Wrong s c.args.at (drop c.args.at c.args.file.now)) (sym a.0) (short s c.args.extent e c.args.file.now c.args.at c.in-Some.tag c.in-Some.ensures room other (c.if-not-comes.ensures.0 refl) a.1))
           (λ a. subst (Wrong s c.args.at (drop c.args.at c.args.file.now)) (sym a.0) (surplus s c.args.extent e c.args.file.now c.args.at c.in-Some.tag c.in-Some.ensures room other (c.if-not-comes.ensures.0 refl) a.1 a.2))
-          c.in_err-check_content.ensures;
+          c.in_err-check_content-in-Cell.ensures;
     })
 
-pub returns-in_ok-check_end : goal.returns-in_ok-check_end
-returns-in_ok-check_end c =
-    let k = c.in_ok-check_end.ensures in
+pub returns-in_ok-check_end-in-End : goal.returns-in_ok-check_end-in-End
+returns-in_ok-check_end-in-End c =
+    let k = c.in_ok-check_end-in-End.ensures in
     let room : c.args.at + 3 ≤ length c.args.file.now = omega arith in
     record {
       inside = omega (arith, k.0, k.1);
@@ -66,9 +66,9 @@ returns-in_ok-check_end c =
       decided = λ s e. headed_end s _ c.in-Some.tag c.in-End.is (ended s c.args.extent e c.args.file.now c.args.at c.in-Some.tag c.in-Some.ensures room (ap tag_byte c.in-End.is) k.0 k.1);
     }
 
-pub returns-in_ok-check_content : goal.returns-in_ok-check_content
-returns-in_ok-check_content c =
-    let k = c.in_ok-check_content.ensures in
+pub returns-in_ok-check_content-in-Cell : goal.returns-in_ok-check_content-in-Cell
+returns-in_ok-check_content-in-Cell c =
+    let k = c.in_ok-check_content-in-Cell.ensures in
     let room : c.args.at + 3 ≤ length c.args.file.now = omega arith in
     let other = not_end c.in-Some.tag c.in-Cell.is in
     record {

@@ -1,9 +1,9 @@
-use Rattle.std.proofs.Common.{◌≡◌, ◌+◌, ◌-◌, ◌<◌, ◌≤◌, length, sym, refl, ap, ◌∙◌, subst, arith}
+use Rattle.std.proofs.Common.{refl, arith}
 use Rattle.std.proofs.lemmas.Result.{err_from_is_err_and}
 use Rattle.std.proofs.lemmas.Option.{MatchOption-at_some, MatchOption-at_none}
 use Rattle.sheets.specs.Sheet.{empty}
 use Rattle.sheets.specs.Stored.{held}
-use Rattle.load.specs.Fields.{Advanced, AtEnd}
+use Rattle.load.specs.Fields.{Advanced}
 use Rattle.load.proofs.Steps.{room_at, begun_within, begun_empty}
 use Rattle.load.proofs.Sizes.{same_again, same_then}
 use Rattle.load.proofs.load.fields.Goals as goal
@@ -26,7 +26,7 @@ returns-in_err-next c =
     }
 
 -- what one more field brings
-advanced : (c : goal.After-extent·1) → Advanced c.args.file.now (held c.args.stores.now) c.loop-next.at (held c.field.new.stores) c.in-Some.next
+advanced : (c : goal.After-extent-1) → Advanced c.args.file.now (held c.args.stores.now) c.loop-next.at (held c.field.new.stores) c.in-Some.next
 advanced c =
     let i = c.loop-next.invariant in
     MatchOption-at_some _ _ c.in-Some.next c.in-Some.is (c.in_ok-next.ensures.advances (held c.args.stores.now) i.0 c.requires.enough i.1 i.2 i.3)

@@ -1,6 +1,5 @@
-use Rattle.std.proofs.Common.{◌≡◌, Ok, Err, sym, refl, ap, ◌∙◌, subst, arith}
-use Rattle.sheets.specs.Sheet.{Sheet}
-use Rattle.sheets.specs.Stored.{held, Enough, extent_of}
+use Rattle.std.proofs.Common.{Ok, Err, sym, refl, ap, ◌∙◌}
+use Rattle.sheets.specs.Stored.{held, extent_of}
 use Rattle.sheets.proofs.Exact.{read_unique, read_not_refused}
 use Rattle.sheets.proofs.Outcomes.{refused_unique}
 use Rattle.load.specs.Load.{Sized, faulty}
