@@ -1,5 +1,5 @@
 -- One Fit that was played, and its text. Assumes nothing.
-use Rattle.std.proofs.Common.{◌≡◌, ℕ, suc, ◌+◌, ◌*◌, ◌<◌, ◌≤◌, true, false, cond, eqb, ◌≢◌, List, [], ◌∷◌, ◌++◌, map, length, get_or, take, ℤ, pos, Some, None, vec_items, codes, Option, sym, refl, ap, ◌∙◌, subst, arith}
+use Rattle.std.proofs.Common.{◌≡◌, ℕ, suc, ◌+◌, ◌<◌, ◌≤◌, eqb, List, [], ◌∷◌, ◌++◌, length, get_or, ℤ, Some, vec_items, codes, sym, refl, ap, ◌∙◌, subst, arith}
 use Rattle.std.specs.List.{range_with_len, flat_map}
 use Rattle.std.proofs.lemmas.List.{get_or-take}
 use Rattle.std.proofs.lemmas.Bool.{cond-true, cond-false, eq-eqb, ne_eqb}
@@ -8,19 +8,18 @@ use Rattle.clash.specs.declared.fitted.Fitted.{Fitted as Values}
 use Rattle.clash.specs.Running.{Lasting}
 use Rattle.calls.specs.declared.call.Call.{Call}
 use Rattle.calls.specs.declared.call.Call.TheVariants.{Fit}
-use Rattle.calls.specs.declared.answer.Answer.{Answer}
-use Rattle.calls.specs.declared.answer.Answer.TheVariants.{Done, Fitted, Refused}
+use Rattle.calls.specs.declared.answer.Answer.TheVariants.{Fitted}
 use Rattle.calls.specs.declared.step.Step.{Step}
 use Rattle.calls.specs.Answers.{Said, said, returned}
-use Rattle.calls.specs.Sheet.{Sheet, cells, places, Sizes, Checked, passes, lists, rules, missing, Opens, Enough, Judged, Judged.fits}
-use Rattle.calls.specs.History.{Did, standing}
-use Rattle.calls.specs.Plays.{sizes, Plays, Plays.none, Plays.more, Makes, refused, changed, fitted}
-use Rattle.calls.specs.Promise.{filling_of, Filled, Clashed, Ended, filled, clashed, FillingOrCore, FillingsAndCores}
+use Rattle.calls.specs.Sheet.{Sheet, cells, Sizes, Checked, passes, lists, rules, missing, Opens, Enough, Judged, Judged.fits}
+use Rattle.calls.specs.History.{Did}
+use Rattle.calls.specs.Plays.{sizes, Plays, refused, changed, fitted}
+use Rattle.calls.specs.Promise.{filling_of, Ended, filled, clashed, FillingOrCore, FillingsAndCores}
 use Rattle.calls.specs.Runs.{StepRuns, PlaysByRuns, fresh}
 use Rattle.calls.proofs.Following.{judged_same, said_same}
 use Rattle.formulas.specs.Tree.{numeral}
 use Rattle.report.specs.Report.{cell_line, fits_text, clash_text}
-use Rattle.answers.specs.Answers.{answer_text, FitText, unopened, fits, clashes}
+use Rattle.answers.specs.Answers.{answer_text, FitText, fits, clashes}
 
 -- an open session has few cells
 few : (s : Sheet) (n : ℕ) → n ≡ 0 → Checked s n → length s.lengths ≤ 64

@@ -11,7 +11,7 @@ use Rattle.calls.specs.declared.call.Call.TheVariants.{Fit}
 use Rattle.calls.specs.declared.answer.Answer.{Answer}
 use Rattle.calls.specs.declared.answer.Answer.TheVariants.{Done, Fitted, Refused}
 use Rattle.calls.specs.declared.step.Step.{Step}
-use Rattle.calls.specs.Answers.{number_of, said, returned}
+use Rattle.calls.specs.Answers.{number_of}
 use Rattle.calls.specs.Sheet.{Sheet, sheet, cells, Checked, Opens, Enough}
 use Rattle.calls.specs.Plays.{sizes}
 use Rattle.calls.specs.Promise.{filling_of, FillingOrCore}

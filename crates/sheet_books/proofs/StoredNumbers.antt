@@ -16,7 +16,7 @@ Short lists = Each (λ zs. length zs ≤ 64) lists
 abbrev pub spread : List (List ℤ) → List ℤ
 spread lists = flat_map (filled (pos 0) 64) lists
 
-number_there : (lists : List (List ℤ)) (q : List ℤ) → Short lists → (c v : ℕ) → c < length lists → v < length (get_or lists c [])
+pub number_there : (lists : List (List ℤ)) (q : List ℤ) → Short lists → (c v : ℕ) → c < length lists → v < length (get_or lists c [])
     → get_or (spread lists ++ q) (64 * c + v) (pos 0) ≡ get_or (get_or lists c []) v (pos 0)
 number_there [] q s c v h l = absurd (omega arith)
 number_there (zs ∷ lists) q s zero v h l =
@@ -33,7 +33,7 @@ number_there (zs ∷ lists) q s (suc c) v h l =
     ∙ ap (λ i. get_or (spread lists ++ q) i (pos 0)) n
     ∙ number_there lists q s.1 c v (omega arith) l
 
-length_there : (lists : List (List ℤ)) (c : ℕ) → get_or (map length lists) c 0 ≡ length (get_or lists c [])
+pub length_there : (lists : List (List ℤ)) (c : ℕ) → get_or (map length lists) c 0 ≡ length (get_or lists c [])
 length_there [] c = refl
 length_there (zs ∷ lists) zero = refl
 length_there (zs ∷ lists) (suc c) = length_there lists c

@@ -1,6 +1,5 @@
-use Rattle.std.proofs.Common.{◌≡◌, ℕ, ◌+◌, ◌*◌, List, [], ◌∷◌, ◌++◌, length, get_or, ℤ, pos, vec_items, sym, refl, ap, ◌∙◌, subst, rules}
+use Rattle.std.proofs.Common.{ℕ, ◌+◌, ◌*◌, [], get_or, ℤ, pos, sym, ap, subst, rules}
 use Rattle.text.proofs.Appends.{made_so}
-use Rattle.calls.specs.Answers.{number_of}
 use Rattle.calls.specs.Sheet.{sheet}
 use Rattle.calls.specs.Promise.{FillingsAndCores}
 use Rattle.calls.specs.Runs.{PlaysByRuns, fresh}
