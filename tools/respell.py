@@ -29,6 +29,8 @@ SPECIAL = {
 SPLIT = re.compile(r"([\s(){}\[\].,;:|↦→×⊎λ]+)")
 # A signature inside a module or a mutual block.
 INNER = re.compile(r"^ {4,8}(?:abbrev |unfoldable )?(?:pub )?([a-z][a-zA-Z0-9']*(?:-[a-zA-Z0-9']+)+) :(?: |$)")
+# A name that a use line gives.
+ALIAS = re.compile(r" as ([a-z][a-zA-Z0-9']*(?:-[a-zA-Z0-9']+)+)(?=[,}])")
 GOALS = ("Answers.antt", "Invariants.antt", "Proof.antt")
 
 
@@ -63,6 +65,7 @@ def declared(path, text):
         indent = len(line) - len(line.lstrip(" "))
         if line.strip().startswith("--"):
             continue
+        yield from ALIAS.findall(line) if line.startswith("use ") else ()
         if indent > 2:
             inner = INNER.match(line)
             if inner:

@@ -8,7 +8,7 @@ use Rattle.calls.specs.Sheet.{Sheet, sheet, cells, places}
 use Rattle.calls.specs.Promise.{filling_of, Ended, filled, clashed}
 use Rattle.sheets.specs.declared.fault.LoadFault.{LoadFault}
 use Rattle.sheets.specs.declared.stores.Extent.{Extent}
-use Rattle.sheets.specs.Faults.{number as fault-number, offset as fault-offset}
+use Rattle.sheets.specs.Faults.{number as fault_number, offset as fault_offset}
 use Rattle.sheets.specs.Sheet.{Sheet as Stated, GoodList}
 use Rattle.sheets.specs.Stored.{Contents, Enough}
 use Rattle.sheets.specs.Meaning.{Means, number_at}
@@ -57,8 +57,8 @@ pub holds_read : (file : List ℕ) (before after : Contents) (e : Extent) (r : R
 holds_read file before after e r = record { good = r.read.good; before = before; held = r.stores; takes = r.extent }
 
 -- the text for a file that is refused by stores of the published sizes
-pub refused_text : (file : List ℕ) (before after : Contents) (e : LoadFault) → Enough before → Refused file before after e → Answers file (fault_text (fault-number e) (fault-offset e))
+pub refused_text : (file : List ℕ) (before after : Contents) (e : LoadFault) → Enough before → Refused file before after e → Answers file (fault_text (fault_number e) (fault_offset e))
 refused_text file before after e enough (unsized n is same) =
-    subst (λ x. Answers file (fault_text (fault-number x) (fault-offset x))) (sym is)
+    subst (λ x. Answers file (fault_text (fault_number x) (fault_offset x))) (sym is)
     (⊎_elim (λ l. too_long l) (λ l. absurd (n (record { short = l; enough = enough }))) (cases_lt 32768 (length file)))
 refused_text file before after e enough (refused sized with same) = faulty sized.short with

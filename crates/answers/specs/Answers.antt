@@ -17,7 +17,7 @@ use Rattle.calls.specs.Plays.{sizes}
 use Rattle.calls.specs.Promise.{filling_of, FillingOrCore}
 use Rattle.calls.specs.Runs.{StepRuns, fresh}
 use Rattle.sheets.specs.declared.fault.LoadFault.{LoadFault}
-use Rattle.sheets.specs.Faults.{number as fault-number, offset as fault-offset}
+use Rattle.sheets.specs.Faults.{number as fault_number, offset as fault_offset}
 use Rattle.sheets.specs.Sheet.{Sheet as Stated}
 use Rattle.sheets.specs.Reading.{ReadAs, RefusedWith}
 use Rattle.sheets.specs.Meaning.{Means, number_at}
@@ -64,5 +64,5 @@ pub record SheetText (s : Stated) (t : List ℕ) : Type 0 where
 -- the text for a file: its first fault, or the text of the sheet that it is
 pub data Answers (file : List ℕ) : List ℕ → Type 0 where
   too_long : 32768 < length file → Answers file (fault_text 10 0)
-  faulty : {e : LoadFault} → length file ≤ 32768 → RefusedWith file e → Answers file (fault_text (fault-number e) (fault-offset e))
+  faulty : {e : LoadFault} → length file ≤ 32768 → RefusedWith file e → Answers file (fault_text (fault_number e) (fault_offset e))
   read : {s : Stated} {t : List ℕ} → length file ≤ 32768 → ReadAs file s → SheetText s t → Answers file t

@@ -17,7 +17,7 @@ use Rattle.calls.specs.Sheet.{Sheet, Sizes, Judged, Judged.shut, Judged.pins, Ju
 use Rattle.calls.specs.History.{Did, standing}
 use Rattle.calls.specs.Plays.{sizes, did, Makes, Makes.refused, Makes.changed, Makes.fitted, Plays.none, Plays.more}
 use Rattle.calls.specs.Promise.{lines_of, filling_of}
-use Rattle.calls.specs.Runs.{Ran, start_after, Alone, Comes, StepRuns, PlaysByRuns, Alike, Agree, Pairwise, Pairwise.none as no_pairs, Pairwise.more as and-pairs, Follows}
+use Rattle.calls.specs.Runs.{Ran, start_after, Alone, Comes, StepRuns, PlaysByRuns, Alike, Agree, Pairwise, Pairwise.none as no_pairs, Pairwise.more as and_pairs, Follows}
 use Rattle.calls.proofs.RunLaws.{ran_fixed}
 use Rattle.calls.proofs.Fillings.{starts_long}
 
@@ -179,11 +179,11 @@ module _ {C : Type 0} (k : Machine C) (s : Sheet) where
   plays_same : {before before' : List Step} → Pairwise Alike before before' → (h : List Did) (x y y' : Lasting C) (after after' : List Step) → PlaysByRuns k s h x before after y
       → PlaysByRuns k s h x before' after' y' → Pairwise (Agree s) after after' × (y ≡ y')
   plays_same no_pairs h x y y' after after' none none = (no_pairs, refl)
-  plays_same (and-pairs e es) h x y y' _ _ (more {t = t} {a = a} {after = after} d p) (more {a = a'} {before = before'} {after = after'} d' p') =
+  plays_same (and_pairs e es) h x y y' _ _ (more {t = t} {a = a} {after = after} d p) (more {a = a'} {before = before'} {after = after'} d' p') =
       let q = makes_same e d d' in
       let i : did a ≡ did a' = did_same q.0.call q.0.answer in
       let r = plays_same es (did a ∷ h) t y y' after after' p (subst₂ (λ (c : Did) (t : Lasting C). PlaysByRuns k s (c ∷ h) t before' after' y') (sym i) (sym q.1) p') in
-      (and-pairs q.0 r.0, r.1)
+      (and_pairs q.0 r.0, r.1)
     where
       did_same : {c c' : Call} {a a' : Answer} → c ≡ c' → a ≡ a' → ◌≡◌ {A = Did} (record { call = c; answer = a }) (record { call = c'; answer = a' })
       did_same e f = cc

@@ -26,7 +26,7 @@ use Rattle.calls.proofs.Promising.{done_opens, stands_same, stands_changed, vali
 use Rattle.opening.specs.Pins.{held}
 use Rattle.session.specs.declared.table.Table.{Table}
 use Rattle.session.specs.declared.session.Session.{Session}
-use Rattle.session.specs.Calls.{sheet_of, lasting_of, with_lasting, changed as table-changed, Changed, table_start, table_on, sizes_of, FitCalled}
+use Rattle.session.specs.Calls.{sheet_of, lasting_of, with_lasting, changed as table_changed, Changed, table_start, table_on, sizes_of, FitCalled}
 use Rattle.play.specs.Held.{Holds}
 
 -- ---- rules that are on, by the number of an answer
@@ -69,7 +69,7 @@ set_at xs i v d lt c = elim (cases_eq i c) [
 ]
 
 holds_changed : {s : Sheet} {z : Sizes} {call : Call} {n : ℕ} {h : List Did} {t : Table} (d : Did) → Judged s z call n → n ≡ 0 → d.call ≡ call → (said d.answer).number ≡ 0
-    → Holds s.lengths h t → Valid s.lengths (standing (d ∷ h)) → Holds s.lengths (d ∷ h) (table-changed t call)
+    → Holds s.lengths h t → Valid s.lengths (standing (d ∷ h)) → Holds s.lengths (d ∷ h) (table_changed t call)
 holds_changed d (shut x) e i f a v = absurd (omega arith)
 holds_changed {s} {t = t} d (pins {cell} {place} o lt b) e i f a v =
     let few = few_cells s o in
@@ -103,7 +103,7 @@ to_change_plain : (r : Result (Unit {0}) Refusal) → said (to_change r) ≡ pla
 to_change_plain (Ok u) = refl
 to_change_plain (Err e) = refl
 
-changed_weights : (t : Table) (call : Call) → (table-changed t call).weights ≡ t.weights
+changed_weights : (t : Table) (call : Call) → (table_changed t call).weights ≡ t.weights
 changed_weights t (Pin cell place) = refl
 changed_weights t (Free cell) = refl
 changed_weights t (Switch rule on) = refl

@@ -4,10 +4,10 @@ use lib.ListN.{length-map}
 use Rattle.std.specs.List.{flat_map}
 use Rattle.std.proofs.lemmas.Bool.{cases_lt, lt-ltb, le-ltb, cond-true, cond-false}
 use Rattle.network.specs.Book.{Rule, no_rule}
-use Rattle.rows.specs.Rows.{no_rows, rule_of as rows-rule-of, WellFormed as GoodRules}
+use Rattle.rows.specs.Rows.{no_rows, rule_of as rows_rule_of, WellFormed as GoodRules}
 use Rattle.formulas.specs.declared.node.Node.{Node}
 use Rattle.formulas.specs.declared.node.Node.TheVariants.{Free}
-use Rattle.formula_book.specs.Formulas.{no_formula, rule_of as formula-rule-of, WellFormed as GoodFormulas}
+use Rattle.formula_book.specs.Formulas.{no_formula, rule_of as formula_rule_of, WellFormed as GoodFormulas}
 use Rattle.formula_book.specs.Support.{lists_of}
 use Rattle.sheets.specs.declared.stores.Extent.{Extent}
 use Rattle.sheets.specs.Sheet.{Sheet, Good, GoodList}
@@ -62,10 +62,10 @@ module _ (before : Contents) (s : Sheet) (g : Good s) where
   -- rule r of the book, and what it is in the sheet
   module _ (r : ℕ) (h : r < (book_of borrowed).count) where
     abbrev by_rows : Rule
-    by_rows = rows-rule-of c.places (get_or borrowed.rules r no_rows)
+    by_rows = rows_rule_of c.places (get_or borrowed.rules r no_rows)
 
     abbrev by_formula : ℕ → Rule
-    by_formula k = formula-rule-of (lists_of borrowed.lengths c.numbers) c.nodes (get_or borrowed.formulas k no_formula)
+    by_formula k = formula_rule_of (lists_of borrowed.lengths c.numbers) c.nodes (get_or borrowed.formulas k no_formula)
 
     low : r < length s.rows → ((book_of borrowed).rule r ≡ by_rows) × (rule_at s r ≡ rows_rule (get_or s.rows r no_field))
     low l = (

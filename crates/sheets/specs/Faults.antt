@@ -1,6 +1,6 @@
 -- What each fault of a sheet file says: its number, its layer and its offset. Assumes nothing.
 use Rattle.std.specs.Prelude.{ℕ}
-use Rattle.formulas.specs.Faults.{number as flaw-number}
+use Rattle.formulas.specs.Faults.{number as flaw_number}
 use Rattle.sheets.specs.declared.fault.RuleFault.{RuleFault}
 use Rattle.sheets.specs.declared.fault.RuleFault.TheVariants.{List, Rows, Formula}
 use Rattle.sheets.specs.declared.fault.LoadFault.{LoadFault}
@@ -13,7 +13,7 @@ pub data Layer : Type 0 where
 abbrev pub rule_number : RuleFault → ℕ
 rule_number (List k) = 3
 rule_number (Rows k) = 5
-rule_number (Formula f) = flaw-number f.flaw
+rule_number (Formula f) = flaw_number f.flaw
 
 abbrev pub rule_layer : RuleFault → Layer
 rule_layer (List k) = rule
