@@ -79,3 +79,43 @@ pub fn answer(heap: Global, file: &[u8]) -> Result<Vec<u8>, AllocError>
     };
     answer_in(heap, file, &mut stores)
 }
+
+#[cfg(test)]
+mod tests {
+    use std::test::Fail;
+
+    #[test]
+    fn a_filling(rt: HostRuntime) -> Result<(), Fail> {
+        let file =
+            b"\x01\x00\x10\x00\x00\x00\x05\xff\xff\xff\xfd\xff\xff\xff\xf8\x00\x00\x00\x02\x01\x00\x0c\x00\x00\x00\x02\xff\xff\xff\xfe\xff\xff\xff\xf7\x04\x00\x00";
+        let out = super::answer(rt.alloc(), file)?;
+        assert!(rt; out.as_slice() == b"FITS 1\nC0=5\nC1=2\n".as_slice());
+        Ok(())
+    }
+
+    #[test]
+    fn a_core(rt: HostRuntime) -> Result<(), Fail> {
+        let file =
+            b"\x01\x00\x0c\x00\x00\x00\x01\x00\x00\x00\x02\x00\x00\x00\x03\x01\x00\x0c\x00\x00\x00\x01\x00\x00\x00\x02\x00\x00\x00\x03\x01\x00\x0c\x00\x00\x00\x01\x00\x00\x00\x02\x00\x00\x00\x03\x02\x00\x03\x00\x01\x00\x04\x00\x00";
+        let out = super::answer(rt.alloc(), file)?;
+        assert!(rt; out.as_slice() == b"CLASH 3\nrule 0\n".as_slice());
+        Ok(())
+    }
+
+    #[test]
+    fn no_cells(rt: HostRuntime) -> Result<(), Fail> {
+        let file = b"\x04\x00\x00";
+        let out = super::answer(rt.alloc(), file)?;
+        assert!(rt; out.as_slice() == b"FAULT 11 0\n".as_slice());
+        Ok(())
+    }
+
+    #[test]
+    fn a_fault(rt: HostRuntime) -> Result<(), Fail> {
+        let file =
+            b"\x01\x00\x08\x00\x00\x00\x01\x00\x00\x00\x02\x01\x00\x0c\x00\x00\x00\x01\x00\x00\x00\x02\x00\x00\x00\x03\x02\x00\x05\x00\x02\x00\x01\x00\x04\x00\x00";
+        let out = super::answer(rt.alloc(), file)?;
+        assert!(rt; out.as_slice() == b"FAULT 5 26\n".as_slice());
+        Ok(())
+    }
+}
