@@ -2,6 +2,7 @@
 use Rattle.std.proofs.Common.{◌≡◌, ℕ, ◌+◌, ◌-◌, ◌*◌, ◌<◌, ◌≤◌, List, [], map, length, get_or, replicate, ℤ, pos, sym, ap, ◌∙◌, subst, ⊎_elim, arith}
 use lib.ListN.{length-map}
 use Rattle.std.proofs.lemmas.Bool.{cases_lt}
+use Rattle.std.proofs.lemmas.Option.{none-some}
 use Rattle.network.specs.Book.{BookMeaning}
 use Rattle.choosers.specs.Choice.{Machine}
 use Rattle.calls.specs.Sheet.{Sheet, sheet, cells, places}
@@ -16,7 +17,7 @@ use Rattle.sheet_books.specs.Books.{Holds}
 use Rattle.sheet_books.proofs.Parts.{each_map}
 use Rattle.sheet_books.proofs.StoredNumbers.{spread, number_there, length_there}
 use Rattle.load.specs.Load.{ReadSheet, Refused, unsized, faulty as refused}
-use Rattle.report.specs.Report.{fault_text}
+use Rattle.text.specs.Text.{fault_text}
 use Rattle.answers.specs.Answers.{usual, usual_start, FitText, unopened, fits, clashes, SheetText, Answers, too_long, faulty}
 use Rattle.answers.proofs.Telling.{fits_same}
 
@@ -30,7 +31,7 @@ fit_same k c s f g h t (fits {a = a} {f = values} o p r v) =
   where
     listed : Ended s [] a values → (x : ℕ) → x < cells s → get_or (filling_of s a) x 0 < places s x
     listed (filled z) x l = z.filling.listed x l
-    listed (clashed z) x l = absurd (omega (arith, v, z.verdict))
+    listed (clashed z) x l = absurd (none-some z.rules (sym v ∙ z.is))
 fit_same k c s f g h t (clashes o p r v) = clashes o p r v
 
 module _ (h : Contents) (e : Extent) (s : Stated) (holds : Holds h e s) where

@@ -1,8 +1,7 @@
 -- One Fit that was played, and its text. Assumes nothing.
-use Rattle.std.proofs.Common.{◌≡◌, ℕ, suc, ◌+◌, ◌<◌, ◌≤◌, eqb, List, [], ◌∷◌, ◌++◌, length, get_or, ℤ, Some, vec_items, codes, sym, refl, ap, ◌∙◌, subst, arith}
+use Rattle.std.proofs.Common.{◌≡◌, ℕ, suc, ◌+◌, ◌<◌, ◌≤◌, eqb, List, [], ◌∷◌, ◌++◌, length, get_or, ℤ, Some, IfOk, Ok, Err, Result, vec_items, codes, sym, refl, ap, ◌∙◌, subst, arith}
 use Rattle.std.specs.List.{range_with_len, flat_map}
 use Rattle.std.proofs.lemmas.List.{get_or-take}
-use Rattle.std.proofs.lemmas.Bool.{cond-true, cond-false, eq-eqb, ne_eqb}
 use Rattle.choosers.specs.Choice.{Machine}
 use Rattle.clash.specs.declared.fitted.Fitted.{Fitted as Values}
 use Rattle.clash.specs.Running.{Lasting}
@@ -18,8 +17,13 @@ use Rattle.calls.specs.Promise.{filling_of, Ended, filled, clashed, FillingOrCor
 use Rattle.calls.specs.Runs.{StepRuns, PlaysByRuns, fresh}
 use Rattle.calls.proofs.Following.{judged_same, said_same}
 use Rattle.formulas.specs.Tree.{numeral}
-use Rattle.report.specs.Report.{cell_line, fits_text, clash_text}
-use Rattle.answers.specs.Answers.{answer_text, FitText, fits, clashes}
+use Rattle.report.specs.Report.{cell_line, fits_text}
+use Rattle.answers.specs.Answers.{fitted_text, answer_text, FitText, fits, clashes}
+
+-- what follows from success
+pub made_so : {X Y P Q : Type 0} (r : Result X Y) → (P → Q) → IfOk r (λ _. P) → IfOk r (λ _. Q)
+made_so (Ok x) f h = f h
+made_so (Err e) f h = tt
 
 -- an open session has few cells
 few : (s : Sheet) (n : ℕ) → n ≡ 0 → Checked s n → length s.lengths ≤ 64
@@ -69,10 +73,10 @@ ends k c s number {a = a} {f = f} o p r (filled z) =
     let part : ℕ → ℤ = λ x. number x (get_or (filling_of s a) x 0) in
     let same : fits_text f.lines (cells s) whole ≡ fits_text f.lines (cells s) part =
     fits_same f.lines (cells s) whole part (λ x h. ap (number x) (sym (get_or-take (cells s) (vec_items a.buffers.filling) x 0 h))) in
-    subst (FitText k c s number) (sym (cond-true (eqb f.verdict 0) (fits_text f.lines (cells s) whole) (clash_text f.lines f.core) (eq-eqb f.verdict 0 z.verdict) ∙ same)) (fits o p r z.verdict)
+    subst (FitText k c s number) (sym (ap (fitted_text f.lines (cells s) whole) z.no_core ∙ same)) (fits o p r z.no_core)
 ends k c s number {a = a} {f = f} o p r (clashed z) =
     let whole : ℕ → ℤ = λ x. number x (get_or (vec_items a.buffers.filling) x 0) in
-    subst (FitText k c s number) (sym (cond-false (eqb f.verdict 0) (fits_text f.lines (cells s) whole) (clash_text f.lines f.core) (ne_eqb f.verdict 0 (λ i. omega (arith, i, z.verdict))))) (clashes o p r z.verdict)
+    subst (FitText k c s number) (sym (ap (fitted_text f.lines (cells s) whole) z.is)) (clashes o p r z.is)
 
 -- what is told of it
 pub told : {C : Type 0} (k : Machine C) (c : C) (s : Sheet) (number : ℕ → ℕ → ℤ) (b : Step) (after : List Step) (y : Lasting C) → b.call ≡ Fit → Opens s → Enough (sizes b.buffers)

@@ -1,5 +1,5 @@
 -- The text that fit prints for a file. Assumes nothing.
-use Rattle.std.specs.Prelude.{◌≡◌, ℕ, ◌<◌, ◌≤◌, cond, ◌≢◌, List, [], ◌∷◌, map, length, ℤ, None, ◌==◌, slice_index}
+use Rattle.std.specs.Prelude.{◌≡◌, ℕ, ◌<◌, ◌≤◌, ◌≢◌, List, [], ◌∷◌, map, length, ℤ, Some, None, Option, slice_index}
 use Rattle.network.specs.Book.{BookMeaning}
 use Rattle.choosers.specs.Choice.{Machine}
 use Rattle.choosers.specs.Kinds.{pick, lighter, hold, held_or}
@@ -21,12 +21,18 @@ use Rattle.sheets.specs.Faults.{number as fault_number, offset as fault_offset}
 use Rattle.sheets.specs.Sheet.{Sheet as Stated}
 use Rattle.sheets.specs.Reading.{ReadAs, RefusedWith}
 use Rattle.sheets.specs.Meaning.{Means, number_at}
-use Rattle.report.specs.Report.{fault_text, fits_text, clash_text}
+use Rattle.text.specs.Text.{fault_text}
+use Rattle.report.specs.Report.{fits_text, clash_text}
 
--- the text of each answer, where f gives the number of each cell
+-- the text of a Fit, where f gives the number of each cell: of a filling, or of a core
+abbrev pub fitted_text : ℕ → ℕ → (ℕ → ℤ) → Option ℕ → List ℕ
+fitted_text lines cells f None = fits_text lines cells f
+fitted_text lines cells f (Some core) = clash_text lines core
+
+-- the text of each answer
 abbrev pub answer_text : ℕ → (ℕ → ℤ) → Answer → List ℕ
 answer_text cells f Done = []
-answer_text cells f (Fitted v) = cond (v.verdict == 0) (fits_text v.lines cells f) (clash_text v.lines v.core)
+answer_text cells f (Fitted v) = fitted_text v.lines cells f v.core
 answer_text cells f (Refused r) = fault_text (number_of r) 0
 
 -- the chooser that fit runs under: last conflict over weighted, with no cell held at the start
@@ -50,10 +56,10 @@ pub record OneFit (steps : List Step) : Type 0 where
 -- or the filling or the core that is promised, which are those of the Fit's runs
 pub data FitText {C : Type 0} (k : Machine C) (c : C) (s : Sheet) (number : ℕ → ℕ → ℤ) : List ℕ → Type 0 where
   unopened : {n : ℕ} → Checked s n → n ≢ 0 → FitText k c s number (fault_text n 0)
-  fits : {b a : Step} {f : Values} {y : Lasting C} → Opens s → FillingOrCore s [] b a f → StepRuns k s [] (fresh c) a f y → f.verdict ≡ 0
+  fits : {b a : Step} {f : Values} {y : Lasting C} → Opens s → FillingOrCore s [] b a f → StepRuns k s [] (fresh c) a f y → f.core ≡ None
       → FitText k c s number (fits_text f.lines (cells s) (λ c. number c (slice_index (filling_of s a) c)))
-  clashes : {b a : Step} {f : Values} {y : Lasting C} → Opens s → FillingOrCore s [] b a f → StepRuns k s [] (fresh c) a f y → f.verdict ≡ 1
-      → FitText k c s number (clash_text f.lines f.core)
+  clashes : {b a : Step} {f : Values} {core : ℕ} {y : Lasting C} → Opens s → FillingOrCore s [] b a f → StepRuns k s [] (fresh c) a f y → f.core ≡ Some core
+      → FitText k c s number (clash_text f.lines core)
 
 -- the text of a stated sheet: that of one Fit over a book with the sheet's rules, with the numbers of its lists
 pub record SheetText (s : Stated) (t : List ℕ) : Type 0 where

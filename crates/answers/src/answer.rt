@@ -1,5 +1,5 @@
 //! The text that `fit` prints, from the bytes of a file.
-ghost use Rattle.std.specs.Prelude.{◌≡◌, ℕ, List, ◌++◌, IfOk, OnOk};
+ghost use Rattle.std.specs.Prelude.{◌≡◌, ℕ, List, ◌++◌, IfOk, OnOk, string_bytes};
 ghost use Rattle.sheets.specs.Sheet.{Sheet};
 ghost use Rattle.sheets.specs.Stored.{held, Enough};
 ghost use Rattle.sheet_books.specs.Books.{Holds};
@@ -9,20 +9,20 @@ use crate::fit::{fit_step, push_fit};
 use formulas::node::Node;
 use load::load::load;
 use reader::formula::{Formula, NODES};
-use report::push_fault;
-use rows::rule::{Kind, RowsRule};
+use rows::rule::RowsRule;
 use sheet_books::{books, lengths};
 use sheets::stores::{CELLS, Extent, NUMBERS, PLACES, RULES, Stores};
 use std::alloc::{AllocError, Global};
+use text::push_fault;
 
 /// The text of one Fit on the sheet in the stores.
 fn push_sheet(
     heap: Global,
-    out: &mut Vec<u8>,
+    out: &mut String,
     stores: &Stores<'_>,
     extent: Extent,
 ) -> Result<(), AllocError>
-    ensures { OnOk result ((s : Sheet) → Holds (held stores.now) extent s → ((t : List ℕ) × (out.new.items ≡ out.old.items ++ t) × SheetText s t)) }
+    ensures { OnOk result ((s : Sheet) → Holds (held stores.now) extent s → ((t : List ℕ) × (string_bytes out.new ≡ string_bytes out.old ++ t) × SheetText s t)) }
 {
     let mut steps = [fit_step(heap)?];
     push_fit(
@@ -35,11 +35,11 @@ fn push_sheet(
 }
 
 /// The text for a file, read into these stores.
-fn answer_in(heap: Global, file: &[u8], stores: &mut Stores<'_>) -> Result<Vec<u8>, AllocError>
+fn answer_in(heap: Global, file: &[u8], stores: &mut Stores<'_>) -> Result<String, AllocError>
     requires { Enough (held stores.old) }
-    ensures { IfOk result (λ v. Answers file.now v.items) }
+    ensures { IfOk result (λ v. Answers file.now (string_bytes v)) }
 {
-    let mut out = Vec::new(heap);
+    let mut out = String::new(heap);
     match load(file, stores) {
         Ok(extent) => push_sheet(heap, &mut out, stores, extent)?,
         Err(fault) => push_fault(&mut out, fault.number(), fault.offset())?,
@@ -48,26 +48,14 @@ fn answer_in(heap: Global, file: &[u8], stores: &mut Stores<'_>) -> Result<Vec<u
 }
 
 /// The text that `fit` prints for a file: the first fault; or that a Fit finds a filling, with the number of each cell, or a clash, with the rules of its core.
-pub fn answer(heap: Global, file: &[u8]) -> Result<Vec<u8>, AllocError>
-    ensures { IfOk result (λ v. Answers file.now v.items) }
+pub fn answer(heap: Global, file: &[u8]) -> Result<String, AllocError>
+    ensures { IfOk result (λ v. Answers file.now (string_bytes v)) }
 {
-    let no_rule = RowsRule {
-        kind: Kind::Permitted,
-        width: 0,
-        cells: [0; 4],
-        start: 0,
-        count: 0,
-    };
-    let no_formula = Formula {
-        root: 0,
-        width: 0,
-        cells: [0; 4],
-    };
     let mut lengths = vec![in heap; 0u8; CELLS]?;
     let mut numbers = vec![in heap; 0i32; NUMBERS]?;
-    let mut rules = vec![in heap; no_rule; RULES]?;
+    let mut rules = vec![in heap; RowsRule::default(); RULES]?;
     let mut places = vec![in heap; 0u8; PLACES]?;
-    let mut formulas = vec![in heap; no_formula; RULES]?;
+    let mut formulas = vec![in heap; Formula::default(); RULES]?;
     let mut nodes = vec![in heap; Node::Free; NODES]?;
     let mut stores = Stores {
         lengths: &mut lengths,
@@ -89,7 +77,7 @@ mod tests {
         let file =
             b"\x01\x00\x10\x00\x00\x00\x05\xff\xff\xff\xfd\xff\xff\xff\xf8\x00\x00\x00\x02\x01\x00\x0c\x00\x00\x00\x02\xff\xff\xff\xfe\xff\xff\xff\xf7\x04\x00\x00";
         let out = super::answer(rt.alloc(), file)?;
-        assert!(rt; out.as_slice() == b"FITS 1\nC0=5\nC1=2\n".as_slice());
+        assert!(rt; out.as_str() == "FITS 1\nC0=5\nC1=2\n");
         Ok(())
     }
 
@@ -98,7 +86,7 @@ mod tests {
         let file =
             b"\x01\x00\x0c\x00\x00\x00\x01\x00\x00\x00\x02\x00\x00\x00\x03\x01\x00\x0c\x00\x00\x00\x01\x00\x00\x00\x02\x00\x00\x00\x03\x01\x00\x0c\x00\x00\x00\x01\x00\x00\x00\x02\x00\x00\x00\x03\x02\x00\x03\x00\x01\x00\x04\x00\x00";
         let out = super::answer(rt.alloc(), file)?;
-        assert!(rt; out.as_slice() == b"CLASH 3\nrule 0\n".as_slice());
+        assert!(rt; out.as_str() == "CLASH 3\nrule 0\n");
         Ok(())
     }
 
@@ -106,7 +94,7 @@ mod tests {
     fn no_cells(rt: HostRuntime) -> Result<(), Fail> {
         let file = b"\x04\x00\x00";
         let out = super::answer(rt.alloc(), file)?;
-        assert!(rt; out.as_slice() == b"FAULT 11 0\n".as_slice());
+        assert!(rt; out.as_str() == "FAULT 11 0\n");
         Ok(())
     }
 
@@ -115,7 +103,7 @@ mod tests {
         let file =
             b"\x01\x00\x08\x00\x00\x00\x01\x00\x00\x00\x02\x01\x00\x0c\x00\x00\x00\x01\x00\x00\x00\x02\x00\x00\x00\x03\x02\x00\x05\x00\x02\x00\x01\x00\x04\x00\x00";
         let out = super::answer(rt.alloc(), file)?;
-        assert!(rt; out.as_slice() == b"FAULT 5 26\n".as_slice());
+        assert!(rt; out.as_str() == "FAULT 5 26\n");
         Ok(())
     }
 }

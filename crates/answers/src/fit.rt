@@ -1,5 +1,5 @@
 //! The text of one Fit on a session just made.
-ghost use Rattle.std.specs.Prelude.{◌≡◌, ℕ, ◌+◌, ◌*◌, ◌≤◌, List, [], ◌∷◌, ◌++◌, length, pos, IfOk, OnOk, slice_index, slice_index_or};
+ghost use Rattle.std.specs.Prelude.{◌≡◌, ℕ, ◌+◌, ◌*◌, ◌≤◌, List, [], ◌∷◌, ◌++◌, length, pos, IfOk, OnOk, slice_index, slice_index_or, string_bytes};
 ghost use Rattle.calls.specs.Sheet.{sheet};
 ghost use Rattle.answers.specs.Answers.{answer_text, OneFit, FitText, usual, usual_start};
 
@@ -11,9 +11,10 @@ use choosers::weighted::Weighted;
 use network::book::RuleBook;
 use opening::check::check;
 use play::play;
-use report::{push_clash, push_fault, push_fits};
-use runs::line::Line;
+use report::{push_clash, push_fits};
+use runs::line::{Line, Verdict};
 use std::alloc::{AllocError, Global};
+use text::push_fault;
 
 /// A Fit with buffers that are long enough.
 pub fn fit_step(heap: Global) -> Result<Step, AllocError>
@@ -22,7 +23,7 @@ pub fn fit_step(heap: Global) -> Result<Step, AllocError>
     let line = Line {
         listed: 0,
         used: 0,
-        verdict: 0,
+        verdict: Verdict::Met,
     };
     let work = vec![in heap; 0u64; 4096]?;
     let log = vec![in heap; line; 450]?;
@@ -35,16 +36,14 @@ pub fn fit_step(heap: Global) -> Result<Step, AllocError>
 }
 
 /// The text of an answer.
-fn push_answer(out: &mut Vec<u8>, cells: u8, numbers: &[i32], step: &Step) -> Result<(), AllocError>
-    ensures { OnOk result (out.new.items ≡ out.old.items ++ answer_text cells (λ c. slice_index_or numbers.now (64 * c + slice_index step.now.buffers.filling.items c) (pos 0)) step.now.answer) }
+fn push_answer(out: &mut String, cells: u8, numbers: &[i32], step: &Step) -> Result<(), AllocError>
+    ensures { OnOk result (string_bytes out.new ≡ string_bytes out.old ++ answer_text cells (λ c. slice_index_or numbers.now (64 * c + slice_index step.now.buffers.filling.items c) (pos 0)) step.now.answer) }
 {
     match step.answer {
-        Answer::Fitted(fitted) => {
-            if fitted.verdict == 0 {
-                return push_fits(out, fitted.lines, cells, numbers, &step.buffers.filling);
-            }
-            push_clash(out, fitted.lines, fitted.core)
-        }
+        Answer::Fitted(fitted) => match fitted.core {
+            None => push_fits(out, fitted.lines, cells, numbers, &step.buffers.filling),
+            Some(core) => push_clash(out, fitted.lines, core),
+        },
         Answer::Refused(refusal) => push_fault(out, refusal.number(), 0),
         Answer::Done => Ok(()),
     }
@@ -52,14 +51,14 @@ fn push_answer(out: &mut Vec<u8>, cells: u8, numbers: &[i32], step: &Step) -> Re
 
 /// Opens a session over the lists and the book, makes one Fit, and tells its answer; or tells why it cannot be opened.
 pub fn push_fit<B: RuleBook + Drop>(
-    out: &mut Vec<u8>,
+    out: &mut String,
     lengths: &[u8],
     numbers: &[i32],
     book: B,
     steps: &mut [Step],
 ) -> Result<(), AllocError>
     requires { OneFit steps.old }
-    ensures { OnOk result (((t : List ℕ) × (out.new.items ≡ out.old.items ++ t)
+    ensures { OnOk result (((t : List ℕ) × (string_bytes out.new ≡ string_bytes out.old ++ t)
         × FitText usual usual_start (sheet lengths.now (B.RuleBook.meaning book)) (λ c v. slice_index_or numbers.now (64 * c + v) (pos 0)) t)) }
 {
     if let Err(refusal) = check(lengths, &book) {

@@ -33,8 +33,3 @@ low_trailing (suc k) n h ne = go (n % 2) refl (λ l ne'. low_trailing k (n / 2) 
         (low_even n (count_trailing_zeros k (n / 2)) e l.0, omega (arith, l.1))
     go (suc zero) e ih = (low_odd n e, omega arith)
     go (suc (suc d)) e ih = absurd (omega arith)
-
-pub trailing_zero : (k : ℕ) → count_trailing_zeros k 0 ≡ k
-unfolding count_trailing_zeros
-trailing_zero zero = refl
-trailing_zero (suc k) = ap suc (trailing_zero k)

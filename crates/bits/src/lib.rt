@@ -1,7 +1,7 @@
 //! Sets of numbers below 64, of places or of rules, as 64-bit masks. Uses nothing but std.
 #![tactic(auto)]
 
-ghost use Rattle.std.specs.Prelude.{◌≡◌, ℕ, ◌-◌, ◌/◌, ◌%◌, ◌^◌, ◌<◌, ◌≤◌, ◌≢◌, Decides, bit_or};
+ghost use Rattle.std.specs.Prelude.{◌≡◌, ℕ, ◌-◌, ◌/◌, ◌%◌, ◌^◌, ◌<◌, ◌≤◌, Decides, IfSome, IsNone, ◌↔◌, bit_or};
 ghost use Rattle.bits.specs.Sets.{In, Lowest, size};
 
 /// Whether `v` is in the set.
@@ -35,12 +35,15 @@ pub fn with(set: u64, v: u8) -> u64
     if v < 64 { set | (1 << v) } else { set }
 }
 
-/// The lowest of a set, 64 where it is empty.
-pub fn lowest(set: u64) -> u8
-    ensures some { set ≢ 0 → Lowest set result × (result < 64) }
-    ensures none { set ≡ 0 → result ≡ 64 }
+/// The lowest of a set, if any.
+pub fn lowest(set: u64) -> Option<u8>
+    ensures is { IfSome result (λ v. Lowest set v × (v < 64)) }
+    ensures empty { IsNone result ↔ (set ≡ 0) }
 {
-    set.trailing_zeros() as u8
+    if set == 0 {
+        return None;
+    }
+    Some(set.trailing_zeros() as u8)
 }
 
 /// How many are in the set.

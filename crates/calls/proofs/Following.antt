@@ -108,19 +108,19 @@ alone_same : {sets p q : List ℕ} → Alone sets p → Alone sets q → p ≡ q
 alone_same {sets} {p} {q} a b = ext_get_or 0 p q (a.there.long ∙ sym b.there.long) (λ c lt.
     let l : c < length sets = let e = a.there.long in omega arith in b.only c (get_or p c 0) (a.there.each c l))
 
-comes_same : (out : Outcome (List ℕ)) (f g : Values) (p q : List ℕ) → Comes out f p → Comes out g q → (f.verdict ≡ g.verdict) × (f.core ≡ g.core) × (f.verdict ≡ 0 → p ≡ q)
-comes_same (left sets) f g p q a b = (a.0 ∙ sym b.0, a.1 ∙ sym b.1, λ _. alone_same a.2 b.2)
-comes_same (core c) f g p q a b = (a.0 ∙ sym b.0, a.1 ∙ sym b.1, λ z. absurd (let o = a.0 in omega arith))
+comes_same : (out : Outcome (List ℕ)) (f g : Values) (p q : List ℕ) → Comes out f p → Comes out g q → (f.core ≡ g.core) × (f.core ≡ None → p ≡ q)
+comes_same (left sets) f g p q a b = (a.0 ∙ sym b.0, λ _. alone_same a.1 b.1)
+comes_same (core c) f g p q a b = (a ∙ sym b, λ z. cc)
 
-values_same : (f g : Values) → f.verdict ≡ g.verdict → f.lines ≡ g.lines → f.core ≡ g.core → f ≡ g
-values_same f g a b c = same a b c
+values_same : (f g : Values) → f.lines ≡ g.lines → f.core ≡ g.core → f ≡ g
+values_same f g a b = same a b
   where
-    same : {v v' l l' k k' : ℕ} → v ≡ v' → l ≡ l' → k ≡ k' → ◌≡◌ {A = Values} (record { verdict = v; lines = l; core = k }) (record { verdict = v'; lines = l'; core = k' })
-    same p q r = cc
+    same : {l l' : ℕ} {k k' : Option ℕ} → l ≡ l' → k ≡ k' → ◌≡◌ {A = Values} (record { lines = l; core = k }) (record { lines = l'; core = k' })
+    same p q = cc
 
 module _ {C : Type 0} (k : Machine C) (s : Sheet) where
   fit_agree : (h : List Did) (a a' : Step) (f g : Values) {x y y' : Lasting C} → StepRuns k s h x a f y → StepRuns k s h x a' g y'
-      → (f ≡ g) × (lines_of a f ≡ lines_of a' g) × (f.verdict ≡ 0 → filling_of s a ≡ filling_of s a') × (y ≡ y')
+      → (f ≡ g) × (lines_of a f ≡ lines_of a' g) × (f.core ≡ None → filling_of s a ≡ filling_of s a') × (y ≡ y')
   fit_agree h a a' f g p q =
       let e = fit_same (Ran k s.book (start_after s h)) (ran_fixed k s.book (start_after s h)) p.runs q.runs in
       let n = length-take-le f.lines (vec_items a.buffers.log) p.counted in
@@ -128,9 +128,9 @@ module _ {C : Type 0} (k : Machine C) (s : Sheet) where
       let lines : f.lines ≡ g.lines = sym n ∙ ap length e.0 ∙ m in
       let wide = starts_long s.lengths (standing h) in
       let c = comes_same q.out f g (take (length (start_after s h)) (vec_items a.buffers.filling)) (take (length (start_after s h)) (vec_items a'.buffers.filling)) (subst (λ (o : Outcome (List ℕ)). Comes o f (take (length (start_after s h)) (vec_items a.buffers.filling))) e.1 p.comes) q.comes in (
-        values_same f g c.0 lines c.1,
+        values_same f g lines c.0,
         e.0,
-        λ z. sym (ap (λ (i : ℕ). take i (vec_items a.buffers.filling)) wide) ∙ c.2 z ∙ ap (λ (i : ℕ). take i (vec_items a'.buffers.filling)) wide,
+        λ z. sym (ap (λ (i : ℕ). take i (vec_items a.buffers.filling)) wide) ∙ c.1 z ∙ ap (λ (i : ℕ). take i (vec_items a'.buffers.filling)) wide,
         e.2,
       )
 
@@ -168,7 +168,7 @@ module _ {C : Type 0} (k : Machine C) (s : Sheet) where
           call = call ∙ e.call ∙ sym call';
           answer = said_same a.answer a'.answer (i ∙ ap returned q.0 ∙ sym i');
           lines = λ v w. let z : f ≡ v = same_values (sym i ∙ w) in subst (λ (t : Values). lines_of a t ≡ lines_of a' t) z (q.1 ∙ ap (lines_of a') (sym q.0));
-          filling = λ v w z. q.2 (ap (λ (t : Values). t.verdict) (same_values (sym i ∙ w)) ∙ z);
+          filling = λ v w z. q.2 (ap (λ (t : Values). t.core) (same_values (sym i ∙ w)) ∙ z);
         },
         q.3,
       )

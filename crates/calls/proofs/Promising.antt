@@ -1,5 +1,5 @@
 -- Calls played by runs keep the promise of fillings and cores. Assumes nothing.
-use Rattle.std.proofs.Common.{◌≡◌, ℕ, ◌+◌, ◌-◌, ◌*◌, ◌^◌, ◌<◌, ◌≤◌, eqb, ◌≢◌, List, [], ◌∷◌, length, get_or, take, Some, None, vec_items, Option, sym, refl, ap, ◌∙◌, subst, subst₂, inl, inr, arith}
+use Rattle.std.proofs.Common.{◌≡◌, ℕ, ◌+◌, ◌-◌, ◌*◌, ◌^◌, ◌<◌, ◌≤◌, eqb, ◌≢◌, List, [], ◌∷◌, length, get_or, take, Some, None, vec_items, Option, sym, refl, ap, ◌∙◌, subst, inl, inr, arith}
 use Rattle.std.proofs.lemmas.List.{length-take-le, ext_get_or}
 use Rattle.std.proofs.lemmas.Bool.{cond-true, cond-false, eq-eqb, ne_eqb, cases_eq}
 use Rattle.bits.specs.Sets.{size}
@@ -28,7 +28,7 @@ use Rattle.calls.proofs.Fillings.{whole_has, starts_long, few_rules, where_small
 -- ---- one meaning of "some filling" for another
 module _ (F G : ℕ → Type 0) (to : (a : ℕ) → F a → G a) (from : (a : ℕ) → G a → F a) where
   right_map : (l : Line) → Right F l → Right G l
-  right_map l r = record { fits = λ e. to l.listed (r.fits e); only = λ g. r.only (from l.listed g); unused = r.unused; among = r.among; clash = λ e g. r.clash e (from l.used g); known = r.known }
+  right_map l r = record { fits = λ e. to l.listed (r.fits e); only = λ g. r.only (from l.listed g); unused = r.unused; among = r.among; clash = λ e g. r.clash e (from l.used g) }
 
   each_map : (ls : List Line) → Each (Right F) ls → Each (Right G) ls
   each_map [] e = tt
@@ -60,20 +60,21 @@ module _ {C : Type 0} (k : Machine C) (naming : Naming k) (s : Sheet) (law : Law
         let count : length (lines_of a f) ≡ f.lines = length-take-le f.lines (vec_items a.buffers.log) n in
         let fl = first_run p in
         let same : take (length (start_after s h)) (vec_items a.buffers.filling) ≡ filling_of s a = ap (λ (x : ℕ). take x (vec_items a.buffers.filling)) long in
-        let alone : Alone sets (filling_of s a) = subst (Alone sets) same c.2 in
+        let alone : Alone sets (filling_of s a) = subst (Alone sets) same c.1 in
         let wide : length (filling_of s a) ≡ length (start_after s h) = alone.there.long ∙ sym fl.left.long ∙ fl.inside.long in
         let q = alone_fills fl alone wide in
         let l = fit_law (Ran k s.book (start_after s h)) (Meetable s.book (start_after s h)) (ran_lawful k naming s.book law (start_after s h)) small_on p in
-        filled (record { verdict = c.0; filling = inside_filling s opens h valid (filling_of s a) q.0; meets = q.1; one = sym count ∙ l.ends.1; no_core = c.1 })
+        filled (record { filling = inside_filling s opens h valid (filling_of s a) q.0; meets = q.1; one = sym count ∙ l.ends.1; no_core = c.0 })
     ends {a = a} {f = f} (core found) p c n =
         let count : length (lines_of a f) ≡ f.lines = length-take-le f.lines (vec_items a.buffers.log) n in
         let l = fit_law (Ran k s.book (start_after s h)) (Meetable s.book (start_after s h)) (ran_lawful k naming s.book law (start_after s h)) small_on p in
         let d = core_map (Meetable s.book (start_after s h)) (Fillable s h) (met_fillable s opens h valid) (fillable_met s opens h valid) (on_after s h) found l.ends.1 in
         clashed (record {
-          verdict = c.0;
+          rules = found;
+          is = c;
           never = λ q. l.ends.0 (fillable_met s opens h valid (on_after s h) q);
-          core = subst (Core (Fillable s h) (on_after s h)) (sym c.1) d;
-          few = λ L e. subst₂ (λ (n m : ℕ). n ≤ size (on_after s h) + 2 + size m * L) count (sym c.1) (l.ends.2 L e);
+          core = d;
+          few = λ L e. subst (λ (n : ℕ). n ≤ size (on_after s h) + 2 + size found * L) count (l.ends.2 L e);
         })
 
     fit_promise : {x y : Lasting C} {b a : Step} {f : Values} → StepDone k s h x b a f y → FillingOrCore s h b a f

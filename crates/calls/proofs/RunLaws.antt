@@ -5,6 +5,7 @@ use Rattle.network.specs.Book.{BookMeaning, Lawful}
 use Rattle.network.specs.Fillings.{Meetable}
 use Rattle.choosers.specs.Choice.{Machine, Naming}
 use Rattle.runs.specs.declared.line.Line.{Line}
+use Rattle.runs.specs.declared.line.Verdict.TheVariants.{Met}
 use Rattle.runs.specs.Law.{Right, Ready, Fills}
 use Rattle.runs.specs.Run.{Run}
 use Rattle.runs.proofs.Running.{run_right, run_fills}
@@ -25,7 +26,7 @@ module _ {C : Type 0} (k : Machine C) (naming : Naming k) (m : BookMeaning) (law
   pub ran_right : {s t : Lasting C} {l : Line} {sets : List ℕ} → Ran k m start s l sets t → Right (Meetable m start) l
   ran_right {l = l} p = run_right k naming m law start l.listed p.ready p.run
 
-  pub ran_fills : {s t : Lasting C} {l : Line} {sets : List ℕ} → Ran k m start s l sets t → l.verdict ≡ 0 → Fills m start l.listed sets
+  pub ran_fills : {s t : Lasting C} {l : Line} {sets : List ℕ} → Ran k m start s l sets t → l.verdict ≡ Met → Fills m start l.listed sets
   ran_fills {l = l} p = run_fills k naming m law start l.listed p.ready p.run
 
   pub ran_lawful : LawfulRuns (Ran k m start) (Meetable m start)

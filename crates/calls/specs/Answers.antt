@@ -17,7 +17,7 @@ number_of NoPlace = 16
 number_of NoRule = 17
 number_of ShortBuffer = 18
 
--- what an answer says: its refusal's number, 0 where the call was not refused; and what a Fit returned, its verdict, its line count and its core
+-- what an answer says: its refusal's number, 0 where the call was not refused; and what a Fit returned, its line count and its core, if any
 pub record Said : Type 0 where
   pub number : ℕ
   pub values : Option Values

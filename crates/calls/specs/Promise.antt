@@ -1,5 +1,5 @@
 -- What a Fit promises: a filling or a core. Assumes nothing.
-use Rattle.std.specs.Prelude.{◌≡◌, ℕ, ◌≤◌, List, [], length, take, drop, vec_items}
+use Rattle.std.specs.Prelude.{◌≡◌, ℕ, ◌≤◌, ◌≢◌, List, [], length, take, drop, Some, None, vec_items}
 use Rattle.bits.specs.Sets.{size}
 use Rattle.network.specs.Fillings.{MeetsAll}
 use Rattle.runs.specs.declared.line.Line.{Line}
@@ -18,20 +18,20 @@ lines_of a f = take f.lines (vec_items a.buffers.log)
 abbrev pub filling_of : Sheet → Step → List ℕ
 filling_of s a = take (cells s) (vec_items a.buffers.filling)
 
--- verdict 0: a filling under the standing pins that meets every rule that is on, in one line, and no core
+-- no core: a filling under the standing pins that meets every rule that is on, in one line
 pub record Filled (s : Sheet) (h : List Did) (a : Step) (f : Values) : Type 0 where
-  pub verdict : f.verdict ≡ 0
   pub filling : Filling s h (filling_of s a)
   pub meets : MeetsAll s.book (on_after s h) (filling_of s a)
   pub one : f.lines ≡ 1
-  pub no_core : f.core ≡ 0
+  pub no_core : f.core ≡ None
 
--- verdict 1: no filling under the standing pins meets every rule that is on, and there is a core of these, in few lines
+-- a core: no filling under the standing pins meets every rule that is on, and it is a core of these, in few lines
 pub record Clashed (s : Sheet) (h : List Did) (a : Step) (f : Values) : Type 0 where
-  pub verdict : f.verdict ≡ 1
+  pub rules : ℕ
+  pub is : f.core ≡ Some rules
   pub never : Fillable s h (on_after s h) → ⊥
-  pub core : Core (Fillable s h) (on_after s h) f.core
-  pub few : Short (size (on_after s h)) (size f.core) f.lines
+  pub core : Core (Fillable s h) (on_after s h) rules
+  pub few : Short (size (on_after s h)) (size rules) f.lines
 
 -- the one or the other
 pub data Ended (s : Sheet) (h : List Did) (a : Step) (f : Values) : Type 0 where
@@ -41,8 +41,8 @@ pub data Ended (s : Sheet) (h : List Did) (a : Step) (f : Values) : Type 0 where
 -- what a Fit keeps, of the lines and the bytes that it was handed: the lines past its own, the bytes after a filling, and all bytes at a clash
 pub record Keeps (cells : ℕ) (f : Values) (log log' : List Line) (filling filling' : List ℕ) : Type 0 where
   pub rest : drop f.lines log' ≡ drop f.lines log
-  pub later : f.verdict ≡ 0 → drop cells filling' ≡ drop cells filling
-  pub bytes : f.verdict ≡ 1 → filling' ≡ filling
+  pub later : f.core ≡ None → drop cells filling' ≡ drop cells filling
+  pub bytes : f.core ≢ None → filling' ≡ filling
 
 abbrev pub StepKeeps : Sheet → Step → Step → Values → Type 0
 StepKeeps s b a f = Keeps (cells s) f (vec_items b.buffers.log) (vec_items a.buffers.log) (vec_items b.buffers.filling) (vec_items a.buffers.filling)

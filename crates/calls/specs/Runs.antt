@@ -42,8 +42,8 @@ pub record Alone (sets f : List ℕ) : Type 0 where
 
 -- what a Fit returns by its outcome: the filling that its first run left, or the core that its rounds found
 abbrev pub Comes : Outcome (List ℕ) → Values → List ℕ → Type 0
-Comes (left sets) f filling = (f.verdict ≡ 0) × (f.core ≡ 0) × Alone sets filling
-Comes (core c) f filling = (f.verdict ≡ 1) × (f.core ≡ c)
+Comes (left sets) f filling = (f.core ≡ None) × Alone sets filling
+Comes (core c) f filling = f.core ≡ Some c
 
 -- a Fit of the rules that are on, from the starting sets: its log begins with the lines of its runs, in order, and it returns what they come to
 pub record FitRuns {C : Type 0} (k : Machine C) (m : BookMeaning) (start : List ℕ) (on : ℕ) (x : Lasting C) (log : List Line) (filling : List ℕ) (f : Values) (y : Lasting C) : Type 0 where
@@ -75,12 +75,12 @@ pub record Alike (b b' : Step) : Type 0 where
   pub log : vec_len b.buffers.log ≡ vec_len b'.buffers.log
   pub filling : vec_len b.buffers.filling ≡ vec_len b'.buffers.filling
 
--- two steps with the same answer, after a Fit also with the same lines and, at verdict 0, the same filling
+-- two steps with the same answer, after a Fit also with the same lines and, at a filling, the same filling
 pub record Agree (s : Sheet) (a a' : Step) : Type 0 where
   pub call : a.call ≡ a'.call
   pub answer : a.answer ≡ a'.answer
   pub lines : (f : Values) → said a.answer ≡ returned f → lines_of a f ≡ lines_of a' f
-  pub filling : (f : Values) → said a.answer ≡ returned f → f.verdict ≡ 0 → filling_of s a ≡ filling_of s a'
+  pub filling : (f : Values) → said a.answer ≡ returned f → f.core ≡ None → filling_of s a ≡ filling_of s a'
 
 -- a relation of the steps of two lists, place by place
 pub data Pairwise (P : Step → Step → Type 0) : List Step → List Step → Type 0 where

@@ -6,7 +6,8 @@ use crate::refusal::Refusal;
 use clash::fitted::Fitted;
 
 /// The answer to a call.
-#[derive(Clone, Copy)]
+// Three cases and no Result: a call that is done has no values, and a Fit's are a case of their own.
+#[derive(Clone, Copy, Debug, PartialEq, Eq)]
 pub enum Answer {
     /// A Pin, a Free or a Switch was done.
     Done,
@@ -16,21 +17,23 @@ pub enum Answer {
     Refused(Refusal),
 }
 
-impl Answer {
-    /// The answer to a Pin, a Free or a Switch.
-    pub fn of_change(res: Result<(), Refusal>) -> Answer
-        ensures { result ≡ to_change res }
-    {
+/// The answer to a Pin, a Free or a Switch.
+impl From<Result<(), Refusal>> for Answer {
+    ghost from_gives = { λ r a. a ≡ to_change r };
+
+    fn from(res: Result<(), Refusal>) -> Self {
         match res {
             Ok(()) => Answer::Done,
             Err(refusal) => Answer::Refused(refusal),
         }
     }
+}
 
-    /// The answer to a Fit.
-    pub fn of_fit(res: Result<Fitted, Refusal>) -> Answer
-        ensures { result ≡ to_fit res }
-    {
+/// The answer to a Fit.
+impl From<Result<Fitted, Refusal>> for Answer {
+    ghost from_gives = { λ r a. a ≡ to_fit r };
+
+    fn from(res: Result<Fitted, Refusal>) -> Self {
         match res {
             Ok(fitted) => Answer::Fitted(fitted),
             Err(refusal) => Answer::Refused(refusal),

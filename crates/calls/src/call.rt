@@ -1,7 +1,7 @@
 //! The calls on a session.
 
 /// A call on a session.
-#[derive(Clone, Copy)]
+#[derive(Clone, Copy, Debug, PartialEq, Eq)]
 pub enum Call {
     /// Sets a cell to one place.
     Pin { cell: u8, place: u8 },

@@ -3,7 +3,7 @@ ghost use Rattle.std.specs.Prelude.{◌≡◌};
 ghost use Rattle.calls.specs.Answers.{number_of};
 
 /// Why a call is refused.
-#[derive(Clone, Copy)]
+#[derive(Clone, Copy, Debug, PartialEq, Eq)]
 pub enum Refusal {
     /// There are no cells, or more than 64, or a list's length is not 1 to 64.
     Lists,
@@ -28,6 +28,7 @@ impl Refusal {
     pub fn number(self) -> u8
         ensures { result ≡ number_of self }
     {
+        // A match and no discriminants, so that each number stands beside its reason where it is given out.
         match self {
             Refusal::Lists => 11,
             Refusal::TooManyRules => 12,

@@ -3,7 +3,7 @@ ghost use Rattle.std.specs.Prelude.{◌≡◌};
 ghost use Rattle.choosers.specs.Choice.{Machine, Naming};
 
 /// What a chooser is told: a run begins, or what became of a tried cell.
-#[derive(Clone, Copy)]
+#[derive(Clone, Copy, Debug, PartialEq, Eq)]
 pub enum Event {
     Start,
     Failed(u8),
@@ -11,7 +11,7 @@ pub enum Event {
 }
 
 /// What a chooser is given of a cell: how many of its places remain, and its weighted degree.
-#[derive(Clone, Copy)]
+#[derive(Clone, Copy, Debug, PartialEq, Eq)]
 pub struct Figure {
     pub places: u8,
     pub degree: u64,
@@ -26,6 +26,7 @@ pub trait Chooser: Sized {
     ghost laws: { Naming meaning };
 
     /// An open cell, or 255 if none is.
+    // A number and no `Option`: this one is promised to hosts.
     fn choose(&self, figures: &[Figure]) -> u8
         ensures { result ≡ meaning.names self.now figures.now };
 

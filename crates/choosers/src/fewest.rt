@@ -4,11 +4,20 @@ ghost use Rattle.choosers.specs.Choice.{Machine, Naming};
 ghost use Rattle.choosers.specs.Kinds.{pick, fewer, Fewer, Chosen};
 ghost use Rattle.choosers.specs.KindLaws.{pick_named};
 
+use crate::best::{Preference, best_open};
 use crate::chooser::{Chooser, Event, Figure};
 
 /// Names the open cell with the fewest places, the lowest of those.
-#[derive(Clone, Copy)]
+#[derive(Clone, Copy, Debug)]
 pub struct Fewest;
+
+impl Preference for Fewest {
+    ghost better = { fewer };
+
+    fn is_better(a: &Figure, b: &Figure) -> bool {
+        a.places < b.places
+    }
+}
 
 impl Chooser for Fewest {
     ghost meaning = { record { names = λ _ fs. pick fewer fs (length fs); told = λ c _. c } };
@@ -19,16 +28,7 @@ impl Chooser for Fewest {
         ensures named { result ≡ pick fewer figures.now (length figures.now) }
         ensures best { Chosen Fewer figures.now result }
     {
-        let mut best = 255;
-        for (cell, figure) in figures.iter().enumerate() {
-            if cell < 64
-                && figure.places > 1
-                && (best == 255 || figure.places < figures[best as usize].places)
-            {
-                best = cell as u8;
-            }
-        }
-        best
+        best_open::<Fewest>(figures).unwrap_or(255)
     }
 
     fn tell(&mut self, _event: Event) {}

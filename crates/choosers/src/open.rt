@@ -8,6 +8,8 @@ use crate::chooser::Figure;
 pub fn is_open(figures: &[Figure], cell: u8) -> bool
     ensures { result ≡ open? figures.now cell }
 {
-    let cell = cell as usize;
-    cell < 64 && cell < figures.len() && figures[cell].places > 1
+    cell < 64
+        && figures
+            .get(cell as usize)
+            .is_some_and(|figure| figure.places > 1)
 }

@@ -1,2 +1,3 @@
 pub mod LogFacts
 pub mod Steps
+pub mod Seeks

@@ -1,2 +1,3 @@
 pub mod Running
 pub mod Logged
+pub mod Seeking

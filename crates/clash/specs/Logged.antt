@@ -1,5 +1,5 @@
 -- Lines written into a log, and a Fit's answer. Assumes nothing.
-use Rattle.std.specs.Prelude.{◌≡◌, ℕ, ◌+◌, ◌≤◌, List, ◌++◌, length, take, drop}
+use Rattle.std.specs.Prelude.{◌≡◌, ℕ, ◌+◌, ◌≤◌, List, ◌++◌, length, take, drop, Some, None}
 use Rattle.runs.specs.declared.line.Line.{Line}
 use Rattle.cores.specs.Core.{Outcome, Outcome.left, Outcome.core, Promise}
 use Rattle.cores.specs.Fit.{Fit}
@@ -11,10 +11,10 @@ pub record Wrote (before : List Line) (from to : ℕ) (ls : List Line) (after : 
   pub begins : take to after ≡ take from before ++ ls
   pub keeps : drop to after ≡ drop to before
 
--- the answer to an outcome: verdict 0 and no core, with the sets that the first run left; or verdict 1 and the core
+-- the answer to an outcome: no core, with the sets that the first run left; or the core
 abbrev pub Answers : {O : Type 0} → Outcome O → Fitted → O → Type 0
-Answers (left o) f sets = (f.verdict ≡ 0) × (f.core ≡ 0) × (o ≡ sets)
-Answers (core c) f sets = (f.verdict ≡ 1) × (f.core ≡ c)
+Answers (left o) f sets = (f.core ≡ None) × (o ≡ sets)
+Answers (core c) f sets = f.core ≡ Some c
 
 -- a Fit's log begins with the lines of its runs, in order, and its later lines are kept; the answer is its outcome, which keeps the promise of cores
 pub record Logged {S O : Type 0} (R : S → Line → O → S → Type 0) (Fits : ℕ → Type 0) (on : ℕ) (s : S) (before : List Line) (f : Fitted) (t : S) (sets : O) (after : List Line) : Type 0 where

@@ -1,9 +1,8 @@
 //! What a Fit comes to.
 
-/// The verdict of its first run, the number of its lines, and its core, 0 where there is none.
-#[derive(Clone, Copy)]
+/// The number of its lines, and its core: none where its first run found that some filling meets the rules.
+#[derive(Clone, Copy, Debug, PartialEq, Eq)]
 pub struct Fitted {
-    pub verdict: u8,
     pub lines: usize,
-    pub core: u64,
+    pub core: Option<u64>,
 }

@@ -1,172 +1,145 @@
 //! From a clash to its core.
-ghost use Rattle.std.specs.Prelude.{◌≡◌, ℕ, ◌+◌, ◌*◌, ◌<◌, ◌≤◌, List, length};
+ghost use Rattle.std.specs.Prelude.{◌≡◌, ℕ, ◌+◌, ◌*◌, ◌<◌, ◌≤◌, List, length, slice_set};
 ghost use Rattle.bits.specs.Sets.{Subset, members, size};
 ghost use Rattle.runs.specs.declared.line.Line.{Line};
 ghost use Rattle.cores.specs.Fit.{with_first, Shrinks, Halves, Rounds};
 ghost use Rattle.clash.specs.Running.{lasting, Room};
-ghost use Rattle.clash.specs.Logged.{Wrote, Logged};
+ghost use Rattle.clash.specs.Logged.{Logged};
+ghost use Rattle.clash.specs.Seeking.{Keeps, lasting_of, Logs};
 
+use crate::core_search::CoreSearch;
 use crate::fitted::Fitted;
-use crate::masks::{count, first, nth};
+use crate::masks::{first, nth};
 use crate::runner::Runner;
-use bits::with;
-use runs::line::Line;
-
-/// The number of lines so far, and the candidates for the core.
-#[derive(Clone, Copy)]
-struct Shrunk {
-    lines: usize,
-    candidates: u64,
-}
-
-/// Runs the used rules until a run has used every rule that it listed.
-fn shrink<T: Runner<C>, C>(
-    runner: &T,
-    chooser: &mut C,
-    weights: &mut [u32],
-    work: &mut [u64],
-    sets: &mut [u64],
-    opening: Line,
-    log: &mut [Line],
-) -> Shrunk
-    requires room { Room (T.Runner.cells runner.now) weights.old work.old sets.old }
-    requires ready { T.Runner.ready runner.now opening.listed }
-    requires inside { Subset opening.used opening.listed }
-    requires clash { T.Runner.fits runner.now opening.used → ⊥ }
-    requires lines { size opening.listed + 1 ≤ length log.old }
-    ensures { (ls : List Line) × Wrote log.old 1 result.lines ls log.new
-        × Shrinks (T.Runner.runs runner.now) opening (lasting chooser.old weights.old) ls result.candidates (lasting chooser.new weights.new) }
-{
-    let mut line = opening;
-    let mut lines = 1;
-    while line.used != line.listed {
-        line = runner.run(chooser, weights, line.used, work, sets);
-        log[lines] = line;
-        lines += 1;
-    }
-    Shrunk {
-        lines,
-        candidates: line.listed,
-    }
-}
+use bits::{count, with};
+use runs::line::{Line, Verdict};
 
 /// A round: the rules found so far, and how many of the candidates are left.
-#[derive(Clone, Copy)]
+#[derive(Clone, Copy, Debug, PartialEq, Eq)]
 struct Round {
     found: u64,
     candidates: u64,
     left: usize,
 }
 
-/// The number of lines so far, and the place of a candidate, from 1.
-#[derive(Clone, Copy)]
-struct Halved {
-    lines: usize,
-    place: usize,
-}
-
-/// The least place such that the found rules and the candidates up to it clash.
-fn halve<T: Runner<C>, C>(
-    runner: &T,
-    chooser: &mut C,
-    weights: &mut [u32],
-    work: &mut [u64],
-    sets: &mut [u64],
-    round: Round,
-    log: &mut [Line],
-    from: usize,
-) -> Halved
-    requires room { Room (T.Runner.cells runner.now) weights.old work.old sets.old }
-    requires ready { (j : ℕ) → T.Runner.ready runner.now (with_first round.found j (members round.candidates)) }
-    requires some { 1 ≤ round.left }
-    requires few { round.left ≤ 64 }
-    requires lines { from + 6 ≤ length log.old }
-    ensures least { 1 ≤ result.place }
-    ensures most { result.place ≤ round.left }
-    ensures short { result.lines ≤ from + 6 }
-    ensures steps { (ls : List Line) × Wrote log.old from result.lines ls log.new
-        × Halves (T.Runner.runs runner.now) round.found (members round.candidates) 1 round.left (lasting chooser.old weights.old) ls result.place (lasting chooser.new weights.new) }
-{
-    let mut low = 1;
-    let mut high = round.left;
-    let mut lines = from;
-    while low < high {
-        let middle = (low + high) / 2;
-        let tried = runner.run(
-            chooser,
-            weights,
-            round.found | first(round.candidates, middle),
-            work,
-            sets,
-        );
-        log[lines] = tried;
-        lines += 1;
-        if tried.verdict == 1 {
-            high = middle;
-        } else {
-            low = middle + 1;
-        }
+impl<T: Runner<C>, C> CoreSearch<'_, '_, T, C> {
+    /// Runs some rules, and logs the line.
+    fn run(&mut self, listed: u64) -> Line
+        requires ready { T.Runner.ready self.old.runner.now listed }
+        requires line { self.old.lines < length self.old.log.now }
+        ensures keeps { Keeps self.old self.new }
+        ensures lists { result.listed ≡ listed }
+        ensures steps { T.Runner.runs self.old.runner.now (lasting_of self.old) result self.new.sets.now (lasting_of self.new) }
+        ensures logs { self.new.log.now ≡ slice_set self.old.log.now self.old.lines result }
+        ensures counts { self.new.lines ≡ self.old.lines + 1 }
+    {
+        let line = self
+            .runner
+            .run(self.chooser, self.weights, listed, self.work, self.sets);
+        self.log[self.lines] = line;
+        self.lines += 1;
+        line
     }
-    Halved { lines, place: low }
-}
 
-/// The number of lines so far, and the core.
-#[derive(Clone, Copy)]
-struct Found {
-    lines: usize,
-    core: u64,
-}
-
-/// Rounds: the found rules alone, then one more of the candidates, until the found rules clash.
-fn rounds<T: Runner<C>, C>(
-    runner: &T,
-    chooser: &mut C,
-    weights: &mut [u32],
-    work: &mut [u64],
-    sets: &mut [u64],
-    candidates: u64,
-    log: &mut [Line],
-    from: usize,
-) -> Found
-    requires room { Room (T.Runner.cells runner.now) weights.old work.old sets.old }
-    requires ready { T.Runner.ready runner.now candidates }
-    requires clash { T.Runner.fits runner.now candidates → ⊥ }
-    requires lines { from + 1 + 7 * size candidates ≤ length log.old }
-    ensures inside { result.lines ≤ length log.new }
-    ensures steps { (ls : List Line) × Wrote log.old from result.lines ls log.new
-        × Rounds (T.Runner.runs runner.now) (members candidates) 0 (size candidates) (lasting chooser.old weights.old) ls result.core (lasting chooser.new weights.new) }
-{
-    let mut found = 0;
-    let mut left = count(candidates);
-    let mut lines = from;
-    'rounds: loop {
-        let alone = runner.run(chooser, weights, found, work, sets);
-        log[lines] = alone;
-        lines += 1;
-        if alone.verdict == 1 {
-            return Found { lines, core: found };
+    /// Runs the used rules until a run has used every rule that it listed; these are the candidates for the core.
+    fn shrink(&mut self, opening: Line) -> u64
+        requires ready { T.Runner.ready self.old.runner.now opening.listed }
+        requires inside { Subset opening.used opening.listed }
+        requires clash { T.Runner.fits self.old.runner.now opening.used → ⊥ }
+        requires lines { self.old.lines + size opening.listed ≤ length self.old.log.now }
+        ensures keeps { Keeps self.old self.new }
+        ensures steps { (ls : List Line) × Logs self.old ls self.new
+            × Shrinks (T.Runner.runs self.old.runner.now) opening (lasting_of self.old) ls result (lasting_of self.new) }
+    {
+        let mut line = opening;
+        while line.used != line.listed {
+            line = self.run(line.used);
         }
-        let halved = halve(
-            runner,
-            chooser,
-            weights,
-            work,
-            sets,
-            Round {
+        line.listed
+    }
+
+    /// The least place, from 1, such that the found rules and the candidates up to it clash.
+    fn halve(&mut self, round: Round) -> usize
+        requires ready { (j : ℕ) → T.Runner.ready self.old.runner.now (with_first round.found j (members round.candidates)) }
+        requires some { 1 ≤ round.left }
+        requires few { round.left ≤ 64 }
+        requires lines { self.old.lines + 6 ≤ length self.old.log.now }
+        ensures least { 1 ≤ result }
+        ensures most { result ≤ round.left }
+        ensures short { self.new.lines ≤ self.old.lines + 6 }
+        ensures keeps { Keeps self.old self.new }
+        ensures steps { (ls : List Line) × Logs self.old ls self.new
+            × Halves (T.Runner.runs self.old.runner.now) round.found (members round.candidates) 1 round.left (lasting_of self.old) ls result (lasting_of self.new) }
+    {
+        let mut low = 1;
+        let mut high = round.left;
+        while low < high {
+            let middle = (low + high) / 2;
+            let tried = self.run(round.found | first(round.candidates, middle));
+            match tried.verdict {
+                Verdict::Unmet => high = middle,
+                Verdict::Met => low = middle + 1,
+            }
+        }
+        low
+    }
+
+    /// Rounds: the found rules alone, then one more of the candidates, until the found rules clash; these are the core.
+    fn rounds(&mut self, candidates: u64) -> u64
+        requires ready { T.Runner.ready self.old.runner.now candidates }
+        requires clash { T.Runner.fits self.old.runner.now candidates → ⊥ }
+        requires lines { self.old.lines + 1 + 7 * size candidates ≤ length self.old.log.now }
+        ensures inside { self.new.lines ≤ length self.new.log.now }
+        ensures keeps { Keeps self.old self.new }
+        ensures steps { (ls : List Line) × Logs self.old ls self.new
+            × Rounds (T.Runner.runs self.old.runner.now) (members candidates) 0 (size candidates) (lasting_of self.old) ls result (lasting_of self.new) }
+    {
+        let mut found = 0;
+        let mut left = count(candidates) as usize;
+        'rounds: loop {
+            let alone = self.run(found);
+            if let Verdict::Unmet = alone.verdict {
+                return found;
+            }
+            let round = Round {
                 found,
                 candidates,
                 left,
-            },
-            log,
-            lines,
-        );
-        lines = halved.lines;
-        left = halved.place - 1;
-        found = with(found, nth(candidates, left));
+            };
+            left = self.halve(round) - 1;
+            let Some(rule) = nth(candidates, left) else {
+                unreachable!()
+            };
+            found = with(found, rule);
+        }
+    }
+
+    /// One run of the rules that are on, and at a clash the search for its core.
+    fn solve(&mut self, on: u64) -> Fitted
+        requires ready { T.Runner.ready self.old.runner.now on }
+        requires first { self.old.lines ≡ 0 }
+        requires lines { 450 ≤ length self.old.log.now }
+        ensures keeps { Keeps self.old self.new }
+        ensures logged { Logged (T.Runner.runs self.old.runner.now) (T.Runner.fits self.old.runner.now) on (lasting_of self.old) self.old.log.now
+            result (lasting_of self.new) self.new.sets.now self.new.log.now }
+    {
+        let line = self.run(on);
+        if let Verdict::Met = line.verdict {
+            return Fitted {
+                lines: 1,
+                core: None,
+            };
+        }
+        let candidates = self.shrink(line);
+        let core = self.rounds(candidates);
+        Fitted {
+            lines: self.lines,
+            core: Some(core),
+        }
     }
 }
 
-/// A Fit of the rules that are on: one run, and at a clash the search for its core. At verdict 0 the sets are those that the run left.
+/// A Fit of the rules that are on: one run, and at a clash the search for its core. Where that run finds a filling, the sets are those that it left.
 pub fn fit<T: Runner<C>, C>(
     runner: &T,
     chooser: &mut C,
@@ -182,29 +155,14 @@ pub fn fit<T: Runner<C>, C>(
     ensures { Logged (T.Runner.runs runner.now) (T.Runner.fits runner.now) on (lasting chooser.old weights.old) log.old
         result (lasting chooser.new weights.new) sets.new log.new }
 {
-    let line = runner.run(chooser, weights, on, work, sets);
-    log[0] = line;
-    if line.verdict == 0 {
-        return Fitted {
-            verdict: 0,
-            lines: 1,
-            core: 0,
-        };
-    }
-    let shrunk = shrink(runner, chooser, weights, work, sets, line, log);
-    let found = rounds(
+    let mut search = CoreSearch {
         runner,
         chooser,
         weights,
         work,
         sets,
-        shrunk.candidates,
         log,
-        shrunk.lines,
-    );
-    Fitted {
-        verdict: 1,
-        lines: found.lines,
-        core: found.core,
-    }
+        lines: 0,
+    };
+    search.solve(on)
 }

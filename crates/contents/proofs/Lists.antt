@@ -1,8 +1,9 @@
 -- A list read number by number. Assumes nothing.
 use Rattle.std.proofs.Common.{◌≡◌, ℕ, zero, suc, ◌+◌, ◌*◌, ◌/◌, ◌%◌, ◌<◌, ◌≤◌, ◌≢◌, List, [], ◌∷◌, ◌++◌, length, get_or, take, drop, set, ℤ, pos, negsuc, nat_abs, sym, refl, ap, ◌∙◌, subst, ap₂, ⊎_elim, arith, w32, SFits, to_z, of_z, below_more}
 use Rattle.std.proofs.lemmas.Int.{to_z-of_z, of_z-to_z}
-use Rattle.std.proofs.lemmas.List.{nil_from_length, take-append-drop, drop-drop, length-drop, drop_more, get_or-set_same, get_or-set_other, drop-set-lt, get_or-take, length-take-le}
+use Rattle.std.proofs.lemmas.List.{nil_from_length, take-append-drop, drop-drop, length-drop, get_or-set_same, get_or-set_other, drop-set-lt, get_or-take, length-take-le}
 use Rattle.std.proofs.lemmas.Bool.{cases_lt}
+use Rattle.std.specs.Simd.{first_chunks}
 use Rattle.sheets.specs.declared.fault.RuleFault.TheVariants.{List as ListFault}
 use Rattle.sheets.specs.Sheet.{four_bytes, list_bytes, GoodList}
 use Rattle.sheets.proofs.Fields.{byte}
@@ -35,15 +36,17 @@ small_fits (negsuc n) h = record { sfits = omega arith }
 pub by_bits : (z : ℤ) (l : List ℕ) → SFits w32 z → four_bytes z ≡ l → SFits w32 (to_z w32 (of_z w32 z)) × (four_bytes (to_z w32 (of_z w32 z)) ≡ l)
 by_bits z l f e = let b = to_z-of_z w32 z f in (subst (SFits w32) (sym b) f, ap four_bytes b ∙ e)
 
--- the four bytes at a place of some bytes
-pub four_at : (bytes : List ℕ) (i : ℕ) → i + 4 ≤ length bytes → take 4 (drop i bytes) ≡ get_or bytes i 0 ∷ get_or bytes (i + 1) 0 ∷ get_or bytes (i + 2) 0 ∷ get_or bytes (i + 3) 0 ∷ []
-four_at bytes i h =
-    let two : i + 1 + 1 ≡ i + 2 = omega arith in
-    let three : i + 2 + 1 ≡ i + 3 = omega arith in
-    ap (take 4) (drop_more bytes i 0 (omega arith)
-    ∙ ap (λ l. get_or bytes i 0 ∷ l) (drop_more bytes (i + 1) 0 (omega arith)
-    ∙ ap (λ l. get_or bytes (i + 1) 0 ∷ l) (ap (λ n. drop n bytes) two ∙ drop_more bytes (i + 2) 0 (omega arith)
-    ∙ ap (λ l. get_or bytes (i + 2) 0 ∷ l) (ap (λ n. drop n bytes) three ∙ drop_more bytes (i + 3) 0 (omega arith)))))
+-- four bytes of some bytes, as they are cut
+chunk_at : (n k : ℕ) (bytes : List ℕ) → k < n → get_or (first_chunks 4 n bytes) k [] ≡ take 4 (drop (4 * k) bytes)
+chunk_at zero k bytes h = absurd (omega arith)
+chunk_at (suc n) zero bytes h = refl
+chunk_at (suc n) (suc k) bytes h =
+    let e : 4 * suc k ≡ 4 + 4 * k = omega arith in
+    chunk_at n k (drop 4 bytes) (omega arith) ∙ ap (take 4) (drop-drop (4 * k) 4 bytes ∙ ap (λ m. drop m bytes) (sym e))
+
+-- number k is read from the chunk there
+pub read_at : (bytes : List ℕ) (k : ℕ) (chunks : List (List ℕ)) (z : ℤ) → four_bytes z ≡ get_or chunks k [] → chunks ≡ first_chunks 4 (length bytes / 4) bytes → k < length bytes / 4 → four_bytes z ≡ take 4 (drop (4 * k) bytes)
+read_at bytes k chunks z is cut h = is ∙ ap (λ xss. get_or xss k []) cut ∙ chunk_at (length bytes / 4) k bytes h
 
 -- the bytes of number k of a list
 said_at : (zs : List ℤ) (k : ℕ) → k < length zs → take 4 (drop (4 * k) (list_bytes zs)) ≡ four_bytes (get_or zs k (pos 0))

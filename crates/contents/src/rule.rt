@@ -1,5 +1,5 @@
 //! A rule by rows.
-ghost use Rattle.std.specs.Prelude.{◌≡◌, ℕ, ◌+◌, ◌*◌, ◌^◌, ◌<◌, ◌≤◌, List, length, take, drop, Decides, MatchOption, MatchResult, ◌≢◌};
+ghost use Rattle.std.specs.Prelude.{◌≡◌, ℕ, ◌+◌, ◌*◌, ◌/◌, ◌^◌, ◌<◌, ◌≤◌, List, length, take, drop, Decides, MatchOption, MatchResult, ◌≢◌};
 ghost use Rattle.rows.specs.declared.rule.Kind.{Kind};
 ghost use Rattle.sheets.specs.Sheet.{kind_byte};
 ghost use Rattle.sheets.specs.Stored.{filled};
@@ -30,7 +30,7 @@ pub fn read_rows(
     let Parts { kind, cells, rest } = parts;
     let width = cells.len();
     let count = rest.len() / width;
-    if rest.len() % width != 0 || !are_rows(rest, count, cells, lengths) {
+    if rest.len() % width != 0 || !are_rows(rest, cells, lengths) {
         return Err(RuleFault::Rows(tag));
     }
     places[..rest.len()].copy_from_slice(rest);
@@ -73,6 +73,7 @@ fn split(content: &[u8], count: usize) -> Option<Parts<'_>>
 }
 
 /// The kind that a byte stands for.
+// No `TryFrom`: kinds are of `rows`, which knows no bytes of files.
 fn kind_of(byte: u8) -> Option<Kind>
     ensures { MatchOption result ((k : Kind) → byte ≢ kind_byte k) (λ k. byte ≡ kind_byte k) }
 {
@@ -97,40 +98,26 @@ fn stored(cells: &[u8]) -> [u8; 4]
 fn are_known(cells: &[u8], count: usize) -> bool
     ensures { Decides result (Known cells.now count) }
 {
-    for cell in cells {
-        if *cell as usize >= count {
-            return false;
-        }
-    }
-    true
+    cells.iter().all(|cell| (*cell as usize) < count)
 }
 
-/// Whether each place of a row is one of its cell's list.
+/// Whether a row has for each cell a place of its list.
 fn is_row(row: &[u8], cells: &[u8], lengths: &[u8]) -> bool
-    requires wide { length row.now ≡ length cells.now }
-    requires known { Known cells.now (length lengths.now) }
-    ensures { Decides result (Listed lengths.now cells.now row.now) }
+    ensures { Decides result ((length row.now ≡ length cells.now) × Listed lengths.now cells.now row.now) }
 {
-    for k in 0..cells.len() {
-        if row[k] >= lengths[cells[k] as usize] {
-            return false;
-        }
-    }
-    true
+    row.len() == cells.len()
+        && row.iter().zip(cells).all(|(place, cell)| {
+            lengths
+                .get(*cell as usize)
+                .is_some_and(|length| place < length)
+        })
 }
 
-/// Whether each of `count` rows has places of its cells' lists.
-fn are_rows(rows: &[u8], count: usize, cells: &[u8], lengths: &[u8]) -> bool
-    requires long { length rows.now ≡ count * length cells.now }
-    requires known { Known cells.now (length lengths.now) }
-    ensures { Decides result ((i : ℕ) → i < count → Listed lengths.now cells.now (take (length cells.now) (drop (i * length cells.now) rows.now))) }
+/// Whether each row has places of its cells' lists.
+fn are_rows(rows: &[u8], cells: &[u8], lengths: &[u8]) -> bool
+    requires { 0 < length cells.now }
+    ensures { Decides result ((i : ℕ) → i < length rows.now / length cells.now → Listed lengths.now cells.now (take (length cells.now) (drop (i * length cells.now) rows.now))) }
 {
-    let width = cells.len();
-    for i in 0..count {
-        let at = i * width;
-        if !is_row(&rows[at..at + width], cells, lengths) {
-            return false;
-        }
-    }
-    true
+    rows.chunks_exact(cells.len())
+        .all(|row| is_row(row, cells, lengths))
 }

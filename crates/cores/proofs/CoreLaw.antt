@@ -6,6 +6,8 @@ use Rattle.std.proofs.lemmas.List.{take_all}
 use Rattle.bits.specs.Sets.{In, Subset, members, size, set_of}
 use Rattle.bits.proofs.Bits.{has_zero, out_same, out_other}
 use Rattle.runs.specs.declared.line.Line.{Line}
+use Rattle.runs.specs.declared.line.Verdict.{Verdict}
+use Rattle.runs.specs.declared.line.Verdict.TheVariants.{Met, Unmet}
 use Rattle.runs.specs.Law.{Right}
 use Rattle.cores.specs.Core.{Core, Short, Each, Outcome, Promise}
 use Rattle.cores.specs.Fit.{with_first, with_rule, Lawful, Gives, Shrinks, Shrinks.all, Shrinks.fewer, Halves, Halves.met, Halves.down, Halves.up, Rounds, Rounds.alone, Rounds.round, Fit, Fit.fills, Fit.clashes}
@@ -32,16 +34,13 @@ room_up lo hi (suc L) lines most lt h k = (L, half_up lo hi (2 ^ L) lt (let e = 
 pub room_here : (lo hi L lines most : ℕ) → lo < hi → hi - lo + 1 ≤ 2 ^ L → lines + L ≤ most → lines < most
 room_here lo hi L lines most lt h k = let q = room_down lo hi L lines most lt h k in omega (arith, q.2)
 
--- a verdict that is not the one is the other
-pub says_fits : {Fits : ℕ → Type 0} {l : Line} → Right Fits l → (l.verdict ≡ 1 → ⊥) → l.verdict ≡ 0
-says_fits r n = ⊎_elim (λ z. z) (λ o. absurd (n o)) r.known
-
-pub says_one : {Fits : ℕ → Type 0} {l : Line} → Right Fits l → (l.verdict ≡ 0 → ⊥) → l.verdict ≡ 1
-says_one r n = ⊎_elim (λ z. absurd (n z)) (λ o. o) r.known
-
 -- a run of rules that clash says so
-pub says_clash : {Fits : ℕ → Type 0} {l : Line} (a : ℕ) → Right Fits l → l.listed ≡ a → (Fits a → ⊥) → l.verdict ≡ 1
-says_clash {Fits} a r e h = ⊎_elim (λ z. absurd (h (subst Fits e (r.fits z)))) (λ o. o) r.known
+pub says_clash : {Fits : ℕ → Type 0} {l : Line} (a : ℕ) → Right Fits l → l.listed ≡ a → (Fits a → ⊥) → l.verdict ≡ Unmet
+says_clash {Fits} {l} a r e h = go l.verdict refl
+  where
+    go : (v : Verdict) → l.verdict ≡ v → l.verdict ≡ Unmet
+    go Met i = absurd (h (subst Fits e (r.fits i)))
+    go Unmet i = i
 
 each_concat : (P : Line → Type 0) (ls ms : List Line) → Each P ls → Each P ms → Each P (ls ++ ms)
 each_concat P [] ms a b = b
@@ -54,13 +53,13 @@ module _ {S O : Type 0} (R : S → Line → O → S → Type 0) (Fits : ℕ → 
   less : (a b : ℕ) → Subset a b → Fits b → Fits a
   less a b h f = law.less a b h f
 
-  fits : {a : ℕ} {s t : S} {l : Line} {o : O} → Gives R a 0 s l o t → Fits a
+  fits : {a : ℕ} {s t : S} {l : Line} {o : O} → Gives R a Met s l o t → Fits a
   fits g = subst Fits g.lists ((right g.run).fits g.says)
 
-  used_in : {a : ℕ} {s t : S} {l : Line} {o : O} → Gives R a 1 s l o t → Subset l.used a
+  used_in : {a : ℕ} {s t : S} {l : Line} {o : O} → Gives R a Unmet s l o t → Subset l.used a
   used_in {l = l} g = subst (Subset l.used) g.lists ((right g.run).among g.says)
 
-  clash : {a : ℕ} {s t : S} {l : Line} {o : O} → Gives R a 1 s l o t → Fits a → ⊥
+  clash : {a : ℕ} {s t : S} {l : Line} {o : O} → Gives R a Unmet s l o t → Fits a → ⊥
   clash {a} {l = l} g f = (right g.run).clash g.says (less l.used a (used_in g) f)
 
   -- ---- shrinking
@@ -223,7 +222,7 @@ module _ {S O : Type 0} (R : S → Line → O → S → Type 0) (Fits : ℕ → 
     needed = λ r k. absurd (has_zero r k);
   }
 
-  found_law : {on c found : ℕ} {s t u w : S} {o : O} {l : Line} {ls ms : List Line} → on < 2 ^ 64 → Gives R on 1 s l o t → Shrinks R l t ls c u
+  found_law : {on c found : ℕ} {s t u w : S} {o : O} {l : Line} {ls ms : List Line} → on < 2 ^ 64 → Gives R on Unmet s l o t → Shrinks R l t ls c u
       → Rounds R (members c) 0 (size c) u ms found w → Core Fits on found × Short (size on) (size found) (suc (length (ls ++ ms)))
   found_law {on} {c} {found} {l = l} {ls = ls} {ms = ms} h g p q =
       let e = g.lists in

@@ -1,19 +1,13 @@
 -- Sets of rules as masks: unions, members, sizes, first members. Assumes nothing.
-use Rattle.std.proofs.Common.{◌≡◌, ℕ, zero, suc, ◌+◌, ◌-◌, ◌*◌, ◌/◌, ◌%◌, ◌^◌, ◌<◌, ◌≤◌, Bool, true, false, cond, eqb, ◌≢◌, ◌⊎◌, List, [], ◌∷◌, ◌++◌, length, get_or, take, Decides, sym, refl, ap, ◌∙◌, subst, ap₂, inl, inr, ⊎_elim, mul-le-mul_right, mod-eq_of_lt, pow-suc, add-one, one-add, arith, length-append, pow_mono}
+use Rattle.std.proofs.Common.{◌≡◌, ℕ, zero, suc, ◌+◌, ◌-◌, ◌*◌, ◌/◌, ◌%◌, ◌^◌, ◌<◌, ◌≤◌, Bool, cond, eqb, ◌≢◌, ◌⊎◌, List, [], ◌∷◌, ◌++◌, length, get_or, take, Some, slice_get, sym, refl, ap, ◌∙◌, subst, ap₂, inl, inr, ⊎_elim, mul-le-mul_right, mod-eq_of_lt, pow-suc, add-one, one-add, arith, length-append, pow_mono}
 use native.Mathlib.Nat.{mod-le}
 use lib.Bits.{bit_or, or_zero_r}
 use lib.Pow.{mod-pow-add}
 use Rattle.std.proofs.lemmas.Bool.{cases_eq, cases_lt, cond_both, eqb-true, eqb-false, eq-eqb, ne_eqb}
-use Rattle.std.proofs.lemmas.List.{get_or_past, get_or_default, get_or_append_left, get_or-append_right, take_all, take-append-le, length_push, append-nil}
+use Rattle.std.proofs.lemmas.Option.{slice_get-get_or}
+use Rattle.std.proofs.lemmas.List.{get_or_append_left, get_or-append_right, take_all, take-append-le, length_push, append-nil}
 use Rattle.bits.specs.Sets.{In, Subset, below, members, size, set_of}
 use Rattle.bits.proofs.Bits.{has_zero, has_le, mark_same, or_bit, pow_other, pow_same}
-
--- what a test decides does not hold where the test fails
-pub decides_not : {P : Type 0} (r : Bool) → Decides r P → r ≡ false → P → ⊥
-decides_not r d e p = let t = d.1 p in let z : true ≡ false = cc in apart z
-  where
-    apart : true ≡ false → ⊥
-    apart q = let y : ◌≡◌ {A = ℕ} 0 1 = cc in omega arith
 
 -- ---- unions
 or_is : (x y : ℕ) → x < 2 → y < 2 → bit_or x y ≡ 1 → (x ≡ 1) ⊎ (y ≡ 1)
@@ -337,16 +331,12 @@ at_rank (suc n) s r d h k = elim (cases_eq r n) [
     zero_of_eq : {a b : ℕ} → a ≡ b → a - b ≡ 0
     zero_of_eq e = omega arith
 
-pub nth_is : (s r place : ℕ) → r < 64 → In s r → place ≡ length (below r s) → r ≡ get_or (members s) place 64
+pub nth_is : (s r place : ℕ) → r < 64 → In s r → place ≡ length (below r s) → Some r ≡ slice_get (members s) place
 unfolding members
-nth_is s r place h k e = sym (at_rank 64 s r 64 h k) ∙ ap (λ (x : ℕ). get_or (below 64 s) x 64) (sym e)
-
-pub nth_none : (s place : ℕ) → size s ≤ place → 64 ≡ get_or (members s) place 64
-nth_none s place h = sym (get_or_past (members s) place 64 h)
-
--- the default does not matter inside
-pub nth_any : (s place : ℕ) → place < size s → get_or (members s) place 64 ≡ get_or (members s) place 0
-nth_any s place h = get_or_default (members s) place 64 0 h
+nth_is s r place h k e =
+    let is : get_or (below 64 s) place 0 ≡ r = ap (λ (x : ℕ). get_or (below 64 s) x 0) e ∙ at_rank 64 s r 0 h k in
+    let lt : place < length (below 64 s) = omega (arith, rank_lt 64 s r h k) in
+    ap Some (sym is) ∙ sym (slice_get-get_or (below 64 s) place 0 lt)
 
 pub at_end : (n s : ℕ) → n ≡ 64 → length (below n s) ≡ size s
 unfolding members
@@ -360,11 +350,3 @@ pub first_begin : (s many : ℕ) → 0 ≡ set_of (take many (below 0 s))
 unfolding set_of below
 first_begin s zero = refl
 first_begin s (suc n) = refl
-
-below_most : (n s : ℕ) → length (below n s) ≤ n
-below_most zero s = let z = length_zero s in omega arith
-below_most (suc n) s = let p = length_below n s in let q = below_most n s in omega arith
-
-pub size_most : (s : ℕ) → size s ≤ 64
-unfolding members
-size_most s = below_most 64 s

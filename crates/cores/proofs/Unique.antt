@@ -2,6 +2,8 @@
 use Rattle.std.proofs.Common.{◌≡◌, ℕ, ◌+◌, ◌-◌, ◌/◌, List, [], ◌∷◌, ◌++◌, sym, refl, ap, ◌∙◌, subst, ap₂, subst₂, arith}
 use Rattle.bits.specs.Sets.{members, size}
 use Rattle.runs.specs.declared.line.Line.{Line}
+use Rattle.runs.specs.declared.line.Verdict.{Verdict}
+use Rattle.runs.specs.declared.line.Verdict.TheVariants.{Met, Unmet}
 use Rattle.cores.specs.Core.{Outcome, Outcome.left, Outcome.core}
 use Rattle.cores.specs.Fit.{with_rule, Gives, Shrinks, Shrinks.all, Shrinks.fewer, Halves, Halves.met, Halves.down, Halves.up, Rounds, Rounds.alone, Rounds.round, Fit, Fit.fills, Fit.clashes}
 
@@ -10,12 +12,12 @@ pub record Fixed {S O : Type 0} (R : S → Line → O → S → Type 0) : Type 0
   pub same : {s t t' : S} {l l' : Line} {o o' : O} → R s l o t → R s l' o' t' → l.listed ≡ l'.listed → (l ≡ l') × (o ≡ o') × (t ≡ t')
 
 module _ {S O : Type 0} (R : S → Line → O → S → Type 0) (fixed : Fixed R) where
-  gives_same : {a v v' : ℕ} {s t t' : S} {l l' : Line} {o o' : O} → Gives R a v s l o t → Gives R a v' s l' o' t' → (l ≡ l') × (o ≡ o') × (t ≡ t')
+  gives_same : {a : ℕ} {v v' : Verdict} {s t t' : S} {l l' : Line} {o o' : O} → Gives R a v s l o t → Gives R a v' s l' o' t' → (l ≡ l') × (o ≡ o') × (t ≡ t')
   gives_same g h = fixed.same g.run h.run (g.lists ∙ sym h.lists)
 
   -- one run has one verdict
-  never_both : {a : ℕ} {s t t' : S} {l l' : Line} {o o' : O} → Gives R a 0 s l o t → Gives R a 1 s l' o' t' → ⊥
-  never_both g h = let e = ap (λ (x : Line). x.verdict) (gives_same g h).0 in let a = g.says in let b = h.says in omega arith
+  never_both : {a : ℕ} {s t t' : S} {l l' : Line} {o o' : O} → Gives R a Met s l o t → Gives R a Unmet s l' o' t' → ⊥
+  never_both g h = let e = ap (λ (x : Line). x.verdict) (gives_same g h).0 in let a = g.says in let b = h.says in cc
 
   shrinks_same : {c c' : ℕ} {s t t' : S} {l : Line} {ls ls' : List Line} → Shrinks R l s ls c t → Shrinks R l s ls' c' t' → (ls ≡ ls') × (c ≡ c') × (t ≡ t')
   shrinks_same (all e) (all e') = (refl, refl, refl)

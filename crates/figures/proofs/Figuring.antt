@@ -1,14 +1,10 @@
 -- Figures, cell by cell and rule by rule. Assumes nothing.
-use Rattle.std.proofs.Common.{◌≡◌, ℕ, ◌+◌, ◌*◌, ◌/◌, ◌%◌, ◌^◌, ◌<◌, ◌≤◌, Bool, true, false, not, ◌&&◌, ◌||◌, eqb, ◌≢◌, List, [], ◌∷◌, ◌++◌, map, length, get_or, take, set, sum, sym, refl, ap, ◌∙◌, ap₂, inl, inr, arith}
-use Rattle.std.specs.List.{range_with_len}
-use Rattle.std.proofs.lemmas.List.FromFn.{sum_by-map-range_with_len_more, fill_by_all}
-use Rattle.std.proofs.lemmas.List.{take_more, take_all, get_or-set_same, get_or-set_other, get_or-take, length-take-le}
-use Rattle.std.proofs.lemmas.Bool.{cases_eq, eq-eqb, ne_eqb, cond-true, cond-false, and_from}
-use Rattle.bits.specs.Sets.{In, in?}
-use Rattle.network.specs.Book.{BookMeaning}
+use Rattle.std.proofs.Common.{◌≡◌, ℕ, ◌+◌, ◌<◌, ◌≤◌, Bool, true, false, not, ◌&&◌, ◌||◌, eqb, ◌≢◌, List, [], ◌∷◌, ◌++◌, length, get_or, take, set, sym, refl, ap, ◌∙◌, ap₂, inl, inr, arith}
+use Rattle.std.proofs.lemmas.List.{take_more, take_all, get_or-set_same, get_or-set_other}
+use Rattle.std.proofs.lemmas.Bool.{cases_eq, eq-eqb, ne_eqb}
 use Rattle.choosers.specs.declared.chooser.Figure.{Figure}
 use Rattle.choosers.specs.Choice.{no_figure}
-use Rattle.runs.specs.Figures.{open?, some?, joins?, share}
+use Rattle.runs.specs.Figures.{open?, some?, joins?}
 
 or_assoc : (a b c : Bool) → (a || (b || c)) ≡ ((a || b) || c)
 or_assoc true b c = refl
@@ -65,26 +61,6 @@ joins_is sets c cells n h e r l p q s =
     ∙ ap₂ (λ (x y : Bool). x && y) (p ∙ ap (some? (λ x. eqb x c)) (take_all n cells l))
     (q ∙ ap (some? (λ x. not (eqb x c) && open? sets x)) (take_all n cells l))
 
--- ---- the weighted degree, one rule more
-module _ (m : BookMeaning) (listed : ℕ) (sets weights : List ℕ) (c r : ℕ) where
-  abbrev Part : ℕ → ℕ
-  Part n = sum (map (share m listed sets weights c) (range_with_len 0 n))
-
-  part_more : Part (r + 1) ≡ Part r + share m listed sets weights c r
-  part_more = sum_by-map-range_with_len_more (λ x. x) (share m listed sets weights c) 0 r r (omega arith)
-
-  pub adds : {sum sum' : ℕ} → In listed r → joins? sets c (m.rule r).cells ≡ true → get_or weights r 0 < 2 ^ 32 → (sum ≡ Part r) × (sum ≤ r * 4294967295)
-      → sum' ≡ sum + get_or weights r 0 → (sum' ≡ Part (r + 1)) × (sum' ≤ (r + 1) * 4294967295)
-  adds {sum} {sum'} on joins small h e =
-      let s : share m listed sets weights c r ≡ get_or weights r 0 = cond-true _ (get_or weights r 0) 0 (and_from (in? listed r) _ (eq-eqb (listed / 2 ^ r % 2) 1 on) joins) in
-      (omega (arith, part_more, h.0), omega (arith, h.1))
-
-  pub passes : {sum sum' : ℕ} → (in? listed r && joins? sets c (m.rule r).cells) ≡ false → (sum ≡ Part r) × (sum ≤ r * 4294967295)
-      → sum' ≡ sum → (sum' ≡ Part (r + 1)) × (sum' ≤ (r + 1) * 4294967295)
-  passes {sum} {sum'} off h e =
-      let s : share m listed sets weights c r ≡ 0 = cond-false _ (get_or weights r 0) 0 off in
-      (omega (arith, part_more, h.0), omega (arith, h.1))
-
 -- ---- the figures, one cell more, and all of them
 pub figures_more : (f : ℕ → Figure) (xs : List Figure) (i : ℕ) (x : Figure) → i < length xs → x ≡ f i → ((k : ℕ) → k < i → get_or xs k no_figure ≡ f k)
     → (k : ℕ) → k < i + 1 → get_or (set xs i x) k no_figure ≡ f k
@@ -92,6 +68,3 @@ figures_more f xs i x l e h k lk = elim (cases_eq k i) [
   | inl q ↦ ap (λ (j : ℕ). get_or (set xs i x) j no_figure) q ∙ get_or-set_same xs i x no_figure l ∙ e ∙ ap f (sym q)
   | inr ne ↦ get_or-set_other xs i k x no_figure ne ∙ h k (omega arith)
 ]
-
-pub figures_all : (f : ℕ → Figure) (xs : List Figure) (n : ℕ) → n ≤ length xs → ((k : ℕ) → k < n → get_or xs k no_figure ≡ f k) → take n xs ≡ map f (range_with_len 0 n)
-figures_all f xs n l h = fill_by_all f (take n xs) n no_figure (length-take-le n xs l) (λ k lk. get_or-take n xs k no_figure lk ∙ h k lk)

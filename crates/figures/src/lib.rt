@@ -1,88 +1,115 @@
 //! What a chooser is given: how many places remain at each cell, and its weighted degree. Uses `bits`, `network`, `choosers` and `runs`.
 #![tactic(auto)]
 
-ghost use Rattle.std.specs.Prelude.{◌≡◌, ℕ, ◌^◌, ◌<◌, ◌≤◌, length, nat_lt};
+ghost use Rattle.std.specs.Prelude.{◌≡◌, ◌^◌, ◌<◌, ◌≤◌, length, nat_lt};
 ghost use Rattle.bits.specs.Sets.{size};
-ghost use Rattle.runs.specs.Figures.{joins?, degree_of, figure_of, figures_of};
+ghost use Rattle.runs.specs.Settle.{left_at};
+ghost use Rattle.runs.specs.Figures.{joins?, share, degree_of, figure_of, figures_of};
 ghost use Rattle.runs.specs.Law.{Suits};
 
-use bits::has;
+use bits::{count, has};
 use choosers::chooser::{Chooser, Figure};
 use network::book::RuleBook;
+
+/// The cells of a run: what remains at each, the rules of a book that are listed, and their weights.
+#[derive(Drop)]
+pub struct Cells<'a, B: RuleBook> {
+    pub book: &'a B,
+    pub listed: u64,
+    pub weights: &'a [u32],
+    pub sets: &'a [u64],
+    pub ghost suits: { Suits (B.meaning book.now) (length sets.now) },
+    pub ghost few: { length sets.now ≤ 64 },
+    pub ghost weighted: { 64 ≤ length weights.now },
+}
 
 /// Whether two or more places remain.
 fn is_open(places: u64) -> bool
     ensures { result ≡ nat_lt 1 (size places) }
 {
-    places.count_ones() > 1
+    count(places) > 1
 }
 
-/// Whether the rule has the cell, and another one that is open.
-fn joins<B: RuleBook>(book: &B, rule: u16, cell: u8, sets: &[u64]) -> bool
-    requires { Suits (B.meaning book.now) (length sets.now) }
-    ensures { result ≡ joins? sets.now cell ((B.meaning book.now).rule rule).cells }
-{
-    let mut here = false;
-    let mut elsewhere = false;
-    for position in 0..book.width(rule) {
-        let other = book.cell(rule, position);
-        if other == cell {
-            here = true;
+impl<B: RuleBook> Cells<'_, B> {
+    /// The places that remain at a cell, none where it is missing.
+    fn places(&self, cell: u8) -> u64
+        ensures { result ≡ left_at self.now.sets.now cell }
+    {
+        self.sets.get(cell as usize).copied().unwrap_or(0)
+    }
+
+    /// Whether the rule has the cell, and another one that is open.
+    fn joins(&self, rule: u16, cell: u8) -> bool
+        ensures { result ≡ joins? self.now.sets.now cell ((B.meaning self.now.book.now).rule rule).cells }
+    {
+        // A loop: as two `any` chains, the proof of the second did not close.
+        let mut here = false;
+        let mut elsewhere = false;
+        for position in 0..self.book.width(rule) {
+            let other = self.book.cell(rule, position);
+            if other == cell {
+                here = true;
+            } else {
+                elsewhere |= is_open(self.places(other));
+            }
+        }
+        here && elsewhere
+    }
+
+    /// What a rule adds to the weighted degree of a cell: its weight, if it is listed and has that cell and another open one.
+    fn share(&self, rule: u16, cell: u8) -> u32
+        requires { rule < 64 }
+        ensures { result ≡ share (B.meaning self.now.book.now) self.now.listed self.now.sets.now self.now.weights.now cell rule }
+    {
+        if has(self.listed, rule as u8) && self.joins(rule, cell) {
+            self.weights[rule as usize]
         } else {
-            elsewhere |= is_open(sets[other as usize]);
+            0
         }
     }
-    here && elsewhere
-}
 
-/// The weighted degree of a cell: the sum of the weights of the listed rules that have it and another open cell.
-fn degree<B: RuleBook>(book: &B, listed: u64, weights: &[u32], sets: &[u64], cell: u8) -> u64
-    requires suits { Suits (B.meaning book.now) (length sets.now) }
-    requires weighted { 64 ≤ length weights.now }
-    ensures value { result ≡ degree_of (B.meaning book.now) listed sets.now weights.now cell }
-    ensures small { result < 2 ^ 38 }
-{
-    let mut sum = 0;
-    for rule in 0..book.count() {
-        if has(listed, rule as u8) && joins(book, rule, cell, sets) {
-            sum += weights[rule as usize] as u64;
+    /// The weighted degree of a cell.
+    fn degree(&self, cell: u8) -> u64
+        ensures value { result ≡ degree_of (B.meaning self.now.book.now) self.now.listed self.now.sets.now self.now.weights.now cell }
+        ensures small { result < 2 ^ 38 }
+    {
+        // A loop: as a chain, the proof that its `sum` fits did not close.
+        let mut sum = 0;
+        for rule in 0..self.book.count() {
+            sum += self.share(rule, cell) as u64;
+        }
+        sum
+    }
+
+    /// The figure of a cell.
+    fn figure(&self, cell: u8) -> Figure
+        ensures { result ≡ figure_of (B.meaning self.now.book.now) self.now.listed self.now.sets.now self.now.weights.now cell }
+    {
+        Figure {
+            places: count(self.places(cell)),
+            degree: self.degree(cell),
         }
     }
-    sum
-}
 
-/// The figure of a cell.
-fn figure<B: RuleBook>(book: &B, listed: u64, weights: &[u32], sets: &[u64], cell: u8) -> Figure
-    requires suits { Suits (B.meaning book.now) (length sets.now) }
-    requires weighted { 64 ≤ length weights.now }
-    requires within { cell < length sets.now }
-    ensures { result ≡ figure_of (B.meaning book.now) listed sets.now weights.now cell }
-{
-    Figure {
-        places: sets[cell as usize].count_ones() as u8,
-        degree: degree(book, listed, weights, sets, cell),
+    /// Works out the figures of all cells, and the cell that the chooser names at them.
+    fn choose_at<C: Chooser>(&self, chooser: &C, figures: &mut [Figure]) -> u8
+        requires { length figures.old ≡ length self.now.sets.now }
+        ensures { result ≡ C.Chooser.meaning.names chooser.now (figures_of (B.RuleBook.meaning self.now.book.now) self.now.listed self.now.sets.now self.now.weights.now) }
+    {
+        for (cell, figure) in figures.iter_mut().enumerate() {
+            *figure = self.figure(cell as u8);
+        }
+        chooser.choose(figures)
     }
-}
 
-/// The cell that the chooser names at the figures of all cells, 255 if none is open.
-pub fn choose<B: RuleBook, C: Chooser>(
-    book: &B,
-    chooser: &C,
-    listed: u64,
-    weights: &[u32],
-    sets: &[u64],
-) -> u8
-    requires suits { Suits (B.RuleBook.meaning book.now) (length sets.now) }
-    requires few { length sets.now ≤ 64 }
-    requires weighted { 64 ≤ length weights.now }
-    ensures { result ≡ C.Chooser.meaning.names chooser.now (figures_of (B.RuleBook.meaning book.now) listed sets.now weights.now) }
-{
-    let mut figures = [Figure {
-        places: 0,
-        degree: 0,
-    }; 64];
-    for cell in 0..sets.len() {
-        figures[cell] = figure(book, listed, weights, sets, cell as u8);
+    /// The cell that the chooser names at the figures of all cells, 255 if none is open: the number that choosers promise to hosts.
+    pub fn choose<C: Chooser>(&self, chooser: &C) -> u8
+        ensures { result ≡ C.Chooser.meaning.names chooser.now (figures_of (B.RuleBook.meaning self.now.book.now) self.now.listed self.now.sets.now self.now.weights.now) }
+    {
+        let none = Figure {
+            places: 0,
+            degree: 0,
+        };
+        self.choose_at(chooser, &mut [none; 64][..self.sets.len()])
     }
-    chooser.choose(&figures[0..sets.len()])
 }

@@ -1,3 +1,4 @@
 pub mod Grounds
-pub mod Finding
 pub mod Cells
+pub mod Listed
+pub mod Finding

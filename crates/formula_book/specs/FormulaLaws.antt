@@ -19,7 +19,7 @@ width_of f = length-map-range_with_len (λ k. slice_index f.cells k) 0 f.width
 pub cell_of : (f : Formula) (k d : ℕ) → k < f.width → slice_index_or (cells_of f) k d ≡ slice_index f.cells k
 cell_of f k d h = get_or-map-range_with_len (λ j. slice_index f.cells j) 0 f.width k k d h (omega arith)
 
--- what a book holds as its ghost field, taken out
+-- stores that are somehow known to be well formed are so
 pub well_formed : {ns : List Node} {fs : List Formula} → ∥ WellFormed ns fs ∥₁ → WellFormed ns fs
 well_formed {ns} {fs} ok = record {
   few = ∥∥₁_elim ok le_prop (λ w. w.few);
@@ -52,9 +52,9 @@ sound l ns f fit =
           fit.good.apart j k lt m' (sym (cell_of f j 255 n') ∙ e ∙ cell_of f k 255 m');
     }
 
-pub formula_lawful : (l : Lists) (ns : List Node) (fs : List Formula) → ∥ WellFormed ns fs ∥₁ → Lawful (formula_book l ns fs)
+pub formula_lawful : (l : Lists) (ns : List Node) (fs : List Formula) → WellFormed ns fs → Lawful (formula_book l ns fs)
 formula_lawful l ns fs ok = record {
-  bounded = (well_formed ok).few;
-  sound = λ r h. sound l ns (slice_index_or fs r no_formula) ((well_formed ok).each r h);
+  bounded = ok.few;
+  sound = λ r h. sound l ns (slice_index_or fs r no_formula) (ok.each r h);
   missing = λ r h. ap cells_of (get_or_past fs r no_formula h);
 }

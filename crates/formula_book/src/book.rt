@@ -12,5 +12,5 @@ pub struct FormulaBook<'a> {
     pub nodes: &'a [Node],
     pub lengths: &'a [u8],
     pub numbers: &'a [i32],
-    ghost ok: { ∥ WellFormed nodes.now formulas.now ∥₁ },
+    ghost ok: { WellFormed nodes.now formulas.now },
 }

@@ -43,15 +43,7 @@ impl<'a> FormulaBook<'a> {
 pub fn is_well_formed(nodes: &[Node], formulas: &[Formula]) -> bool
     ensures { Decides result (WellFormed nodes.now formulas.now) }
 {
-    if formulas.len() > 65535 {
-        return false;
-    }
-    for formula in formulas {
-        if !is_fit(nodes, formula) {
-            return false;
-        }
-    }
-    true
+    formulas.len() <= 65535 && formulas.iter().all(|formula| is_fit(nodes, formula))
 }
 
 /// Whether the cells of a formula are good, and its root stands for a condition.
@@ -69,12 +61,14 @@ fn is_grounded(nodes: &[Node], at: u16) -> bool
     requires { at < length nodes.now }
     ensures { result ≡ grounded (suc at) nodes.now at }
 {
-    match nodes[at as usize] {
+    let node = nodes[at as usize];
+    match node {
         Node::Free => false,
         Node::Compare(_, _, _) => true,
         Node::Not(only) => is_child(nodes, at, only),
-        Node::And(first, rest) => is_child(nodes, at, first) && is_child(nodes, at, rest),
-        Node::Or(first, rest) => is_child(nodes, at, first) && is_child(nodes, at, rest),
+        Node::And(first, rest) | Node::Or(first, rest) => {
+            is_child(nodes, at, first) && is_child(nodes, at, rest)
+        }
     }
 }
 
@@ -84,8 +78,5 @@ fn is_child(nodes: &[Node], parent: u16, at: u16) -> bool
     requires { parent < length nodes.now }
     ensures { result ≡ child (grounded parent nodes.now) parent at }
 {
-    if at >= parent {
-        return false;
-    }
-    is_grounded(nodes, at)
+    at < parent && is_grounded(nodes, at)
 }

@@ -1,11 +1,22 @@
 //! The formula book as a rule book.
-ghost use Rattle.formula_book.specs.Formulas.{formula_book};
+ghost use Rattle.std.specs.Prelude.{◌≡◌, ◌≤◌, length, slice_index_or, MatchOption};
+ghost use Rattle.formula_book.specs.Formulas.{Fit, formula_book, no_formula};
 ghost use Rattle.formula_book.specs.FormulaLaws.{formula_lawful};
 ghost use Rattle.formula_book.specs.Support.{lists_of};
 
 use crate::book::FormulaBook;
-use crate::search::{Asked, goes_on};
 use network::book::RuleBook;
+use network::tries::{allowed, some_row};
+use reader::formula::Formula;
+
+impl<'a> FormulaBook<'a> {
+    /// The formula of a number.
+    fn find(&self, rule: u16) -> Option<&'a Formula>
+        ensures { MatchOption result (length self.now.formulas.now ≤ rule) (λ f. (f.now ≡ slice_index_or self.now.formulas.now rule no_formula) × Fit self.now.nodes.now f.now) }
+    {
+        self.formulas.get(rule as usize)
+    }
+}
 
 impl<'a> RuleBook for FormulaBook<'a> {
     ghost meaning = { λ b. formula_book (lists_of b.lengths.now b.numbers.now) b.nodes.now b.formulas.now };
@@ -16,28 +27,29 @@ impl<'a> RuleBook for FormulaBook<'a> {
         self.formulas.len() as u16
     }
 
+    // Width and cell are found as in a rows book: a trait for what its rules and formulas share would be longer.
     fn width(&self, rule: u16) -> u8 {
-        let rule = rule as usize;
-        if rule < self.formulas.len() {
-            self.formulas[rule].width
-        } else {
-            0
-        }
+        self.find(rule).map_or(0, |formula| formula.width)
     }
 
     fn cell(&self, rule: u16, position: u8) -> u8 {
-        if position < self.width(rule) {
-            self.formulas[rule as usize].cells[position as usize]
-        } else {
-            255
+        match self.find(rule) {
+            Some(formula) if position < formula.width => formula.cells[position as usize],
+            _ => 255,
         }
     }
 
     fn supported(&self, rule: u16, position: u8, place: u8, sets: &[u64]) -> bool {
-        if position >= self.width(rule) {
+        let Some(formula) = self.find(rule) else {
+            return false;
+        };
+        if position >= formula.width {
             return false;
         }
-        let asked = Asked { position, place };
-        goes_on(self, &self.formulas[rule as usize], sets, asked, [0; 64], 0)
+        // A place past its list is refused with its row; the sets of a session have none.
+        let masks = allowed(formula.cells, position, place, sets);
+        some_row(&masks[..formula.width as usize], |row| {
+            self.permits(formula, row)
+        })
     }
 }

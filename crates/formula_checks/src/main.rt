@@ -2,18 +2,8 @@
 #![tactic(auto)]
 
 use anyhow::anyhow;
-use formulas::fault::Flaw;
 use formulas::node::Node;
 use reader::formula::{NODES, read};
-
-fn number(flaw: Flaw) -> u8 {
-    match flaw {
-        Flaw::Grammar => 6,
-        Flaw::Level => 7,
-        Flaw::Range => 8,
-        Flaw::Cells => 9,
-    }
-}
 
 /// Tries one formula.
 fn attempt(rt: &HostRuntime, nodes: &mut [Node], cells: u8, formula: &[u8]) -> anyhow::Result<()> {
@@ -24,7 +14,7 @@ fn attempt(rt: &HostRuntime, nodes: &mut [Node], cells: u8, formula: &[u8]) -> a
     match read(formula, cells, nodes, &mut used) {
         Ok(_) => println!(rt; "read")?,
         Err(fault) => {
-            let n = number(fault.flaw);
+            let n = fault.flaw.number();
             let offset = fault.offset;
             println!(rt; "{n} {offset}")?
         }

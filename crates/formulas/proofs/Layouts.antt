@@ -85,9 +85,5 @@ module _ {X : Type 0} where
       ∙ ap (λ x. (take n l ++ a) ++ (b ++ x)) (d ∙ ap (λ j. drop j l) k)
       ∙ simp append_assoc
 
-  -- what stands below is kept
-  pub stored_below : (l : List X) (n : ℕ) (new : List X) → n ≤ length l → take n (stored l n new) ≡ take n l
-  stored_below l n new h = take_at (take n l) (new ++ drop (n + length new) l) n (length-take-le n l h)
-
   pub below_kept : (l k r : List X) (n m : ℕ) → n ≤ m → take m r ≡ take m k → take n k ≡ take n l → take n r ≡ take n l
   below_kept l k r n m le e f = sym (take-take n m r le) ∙ ap (take n) e ∙ take-take n m k le ∙ f

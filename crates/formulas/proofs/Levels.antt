@@ -73,10 +73,6 @@ pub deep_open : {s w : List ℕ} {at end l : ℕ} → Spans s at w end → count
 deep_open {s} {w} {at} {end} p b d =
     record { deep = omega (arith, ap (count 40) (spans_take p), ap (count 41) (spans_take p), count_append 40 (take at s) w, count_append 41 (take at s) w, d.deep) }
 
-pub deep_close : {s : List ℕ} {at end l : ℕ} → Spans s at (41 ∷ []) end → Deep s at (suc l) → Deep s end l
-deep_close {s} {at} {end} p d =
-    record { deep = omega (arith, ap (count 40) (spans_take p), ap (count 41) (spans_take p), count_append 40 (take at s) (41 ∷ []), count_append 41 (take at s) (41 ∷ []), d.deep) }
-
 pub deep_level : {s : List ℕ} {at l : ℕ} → Deep s at l → level (take at s) ≡ l
 deep_level d = omega (arith, d.deep)
 

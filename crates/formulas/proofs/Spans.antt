@@ -1,11 +1,10 @@
 -- Words that stand in a text, one after another. Assumes nothing.
-use Rattle.std.proofs.Common.{◌≡◌, ℕ, suc, ◌+◌, ◌-◌, ◌*◌, ◌<◌, ◌≤◌, List, [], ◌∷◌, ◌++◌, length, get_or, take, drop, sym, refl, ap, ◌∙◌, subst, ⊎_elim, append_assoc, arith, length-append, length-drop, take-append-drop}
-use Rattle.std.proofs.lemmas.List.{take_at, drop_at, drop-drop, drop_more, drop_all, drop-take, take_more, take-take, length-take-le}
+use Rattle.std.proofs.Common.{◌≡◌, ℕ, suc, ◌+◌, ◌-◌, ◌<◌, ◌≤◌, List, [], ◌∷◌, ◌++◌, length, get_or, take, drop, sym, refl, ap, ◌∙◌, subst, ⊎_elim, append_assoc, arith, length-append, length-drop, take-append-drop}
+use Rattle.std.proofs.lemmas.List.{take_at, drop_at, drop-drop, drop_more, drop_all, drop-take, take-take, length-take-le}
 use Rattle.std.proofs.lemmas.Bool.{cases_lt, cases_eq}
 use Rattle.formulas.specs.Faults.{next, Digit}
 use Rattle.formulas.specs.Reading.{Spans}
-use Rattle.formulas.specs.Tree.{numeral}
-use Rattle.formulas.proofs.Numerals.{Each, AllDigits, numeral_zero, numeral_one, numeral_push}
+use Rattle.formulas.proofs.Numerals.{Each, AllDigits}
 
 pub next_at : (s : List ℕ) (at : ℕ) → at < length s → next (drop at s) ≡ get_or s at 0
 next_at s at lt = ap next (drop_more s at 0 lt)
@@ -41,9 +40,6 @@ spans_split v w {s} {at} {end} p =
       record { upto = refl; within = omega (arith, p.upto, p.within); said = p.said ∙ append_assoc v w (drop end s) ∙ ap (λ x. v ++ x) (sym e) },
       record { upto = omega (arith, p.upto); within = p.within; said = e },
     )
-
-pub spans_none : (s : List ℕ) (at : ℕ) → at ≤ length s → Spans s at [] at
-spans_none s at h = record { upto = omega arith; within = h; said = refl }
 
 -- the bytes up to the end of a word
 pub spans_take : {s w : List ℕ} {at end : ℕ} → Spans s at w end → take end s ≡ take at s ++ w
@@ -93,21 +89,3 @@ spans_each P (b ∷ w) {s} {at} {end} a p i low high =
 
 pub spans_digits : (w : List ℕ) {s : List ℕ} {at end : ℕ} → AllDigits w → Spans s at w end → (i : ℕ) → at ≤ i → i < end → Digit (next (drop i s))
 spans_digits w a p i low high = spans_each Digit w a p i low high
-
--- digits read one by one
-pub digit_zero : (s : List ℕ) (at : ℕ) → at < length s → get_or s at 0 ≡ 48 → Spans s at (numeral 0) (at + 1)
-digit_zero s at lt is = subst (λ w. Spans s at w (at + 1)) (sym numeral_zero) (spans_byte s at 48 (next_at s at lt ∙ is) (omega arith))
-
-pub digit_first : (s : List ℕ) (at b : ℕ) → at < length s → get_or s at 0 ≡ b → 48 < b → b ≤ 57 → Spans s at (numeral (b - 48)) (at + 1)
-digit_first s at b lt is low high =
-    let d : 48 + (b - 48) ≡ b = omega arith in
-    subst (λ w. Spans s at w (at + 1)) (ap (λ x. x ∷ []) (sym d) ∙ sym (numeral_one (b - 48) (omega arith) (omega arith))) (spans_byte s at b (next_at s at lt ∙ is) (omega arith))
-
-pub digit_more : (s : List ℕ) (at end v b : ℕ) → 0 < v → end < length s → get_or s end 0 ≡ b → 48 ≤ b → b ≤ 57 → Spans s at (numeral v) end → Spans s at (numeral (v * 10 + (b - 48))) (end + 1)
-digit_more s at end v b pos lt is low high p =
-    let d : 48 + (b - 48) ≡ b = omega arith in
-    subst (λ w. Spans s at w (end + 1)) (ap (λ x. numeral v ++ (x ∷ [])) (sym d) ∙ sym (numeral_push v (b - 48) pos (omega arith))) (spans_join p (spans_byte s end b (next_at s end lt ∙ is) (omega arith)))
-
--- a word read byte by byte
-pub word_more : (s w : List ℕ) (at end i : ℕ) → i < length w → next (drop end s) ≡ get_or w i 0 → get_or w i 0 < 256 → Spans s at (take i w) end → Spans s at (take (i + 1) w) (end + 1)
-word_more s w at end i lt is small p = subst (λ v. Spans s at v (end + 1)) (sym (take_more w i 0 lt)) (spans_join p (spans_byte s end (get_or w i 0) is small))

@@ -2,7 +2,8 @@
 ghost use Rattle.std.specs.Prelude.{◌≡◌};
 ghost use Rattle.formulas.specs.Faults.{number};
 
-#[derive(Clone, Copy)]
+/// What can be wrong with a formula's text.
+#[derive(Clone, Copy, Debug, PartialEq, Eq)]
 pub enum Flaw {
     /// A byte outside the grammar, or a text that ends too soon.
     Grammar,
@@ -16,6 +17,7 @@ pub enum Flaw {
 
 impl Flaw {
     /// The number that stands for it.
+    // The interface promises these numbers to hosts.
     pub fn number(self) -> u8
         ensures { result ≡ number self }
     {
@@ -29,7 +31,7 @@ impl Flaw {
 }
 
 /// A formula's first flaw, and the byte where it is.
-#[derive(Clone, Copy)]
+#[derive(Clone, Copy, Debug, PartialEq, Eq)]
 pub struct FormulaFault {
     pub flaw: Flaw,
     pub offset: usize,

@@ -1,7 +1,7 @@
 //! Stored nodes of formulas.
 
 /// A whole number to add to a cell's number, as it is written.
-#[derive(Clone, Copy)]
+#[derive(Clone, Copy, Debug, PartialEq, Eq)]
 pub enum Shift {
     Bare,
     Plus(u32),
@@ -9,13 +9,14 @@ pub enum Shift {
 }
 
 /// One side of a comparison: a number, or a cell's number with a shift.
-#[derive(Clone, Copy)]
+#[derive(Clone, Copy, Debug, PartialEq, Eq)]
 pub enum Side {
     Number(i32),
     Cell(u8, Shift),
 }
 
-#[derive(Clone, Copy)]
+/// How a comparison compares its sides.
+#[derive(Clone, Copy, Debug, PartialEq, Eq)]
 pub enum Relation {
     Equal,
     NotEqual,
@@ -26,7 +27,8 @@ pub enum Relation {
 }
 
 /// A node of a formula's tree; children go by their number in the store, which is smaller than their parent's.
-#[derive(Clone, Copy)]
+// The host lends the store, so children are numbers of its nodes and not boxes.
+#[derive(Clone, Copy, Debug, PartialEq, Eq)]
 pub enum Node {
     Free,
     Compare(Side, Relation, Side),

@@ -24,12 +24,7 @@ fn shift_by(number: i32, shift: Shift) -> i64
 pub fn number_of(cell: u8, numbers: &[i32]) -> i32
     ensures { result ≡ slice_index_or numbers.now cell (pos 0) }
 {
-    let cell = cell as usize;
-    if cell < numbers.len() {
-        numbers[cell]
-    } else {
-        0
-    }
+    numbers.get(usize::from(cell)).copied().unwrap_or(0)
 }
 
 /// What a side comes to; a cell that has no number counts as 0.

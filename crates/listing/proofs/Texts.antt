@@ -1,25 +1,21 @@
 -- Lines written piece by piece. Assumes nothing.
-use Rattle.std.proofs.Common.{◌≡◌, ℕ, suc, ◌+◌, ◌-◌, ◌<◌, ◌≤◌, min, Bool, cond, eqb, List, [], ◌∷◌, ◌++◌, map, length, get_or, take, drop, sym, ap, ◌∙◌, ap₂, ⊎_elim, append_assoc, append-nil, arith, length-drop}
+use Rattle.std.proofs.Common.{◌≡◌, ℕ, suc, ◌+◌, ◌<◌, ◌≤◌, Bool, cond, eqb, IfOk, Ok, Err, Result, List, [], ◌∷◌, ◌++◌, map, length, get_or, take, sym, ap, ◌∙◌, append_assoc, append-nil, arith}
 use mathlib.Core.List.{map-append}
 use lib.ListN.{length-map}
 use Rattle.std.specs.List.{range_with_len, flat_map}
 use Rattle.std.proofs.lemmas.List.FromFn.{map-range_with_len_more, length-map-range_with_len}
-use Rattle.std.proofs.lemmas.List.{take_more, take_all, drop_all, length-take-le}
-use Rattle.std.proofs.lemmas.Bool.{ne_eqb, cases_lt}
+use Rattle.std.proofs.lemmas.List.{take_more, take_all, length-take-le}
+use Rattle.std.proofs.lemmas.Bool.{ne_eqb}
 use Rattle.listing.specs.Listing.{numbered, commas, row_text}
 
--- a part of a list, its bounds cut off at the end
-pub part_cut : {X : Type 0} (xs : List X) (n k f t : ℕ) → f ≡ min (length xs) k → t ≡ min n (length xs - f) → take (f + t - f) (drop f xs) ≡ take n (drop k xs)
-part_cut xs n k f t e h =
-    let z : f + t - f ≡ t = omega arith in
-    ap (λ i. take i (drop f xs)) z ∙ ⊎_elim
-    (λ lt. let g : f ≡ k = omega arith in
-    ⊎_elim
-    (λ short. let i : t ≡ n = omega arith in ap₂ (λ i j. take i (drop j xs)) i g)
-    (λ long. take_all t (drop f xs) (omega (arith, length-drop f xs)) ∙ ap (λ j. drop j xs) g ∙ sym (take_all n (drop k xs) (omega (arith, length-drop k xs))))
-    (cases_lt n (length xs - k)))
-    (λ le. take_all t (drop f xs) (omega (arith, length-drop f xs)) ∙ drop_all f xs (omega arith) ∙ sym (drop_all k xs le) ∙ sym (take_all n (drop k xs) (omega (arith, length-drop k xs))))
-    (cases_lt k (length xs))
+-- what follows from success
+pub made_so : {X Y P Q : Type 0} (r : Result X Y) → (P → Q) → IfOk r (λ _. P) → IfOk r (λ _. Q)
+made_so (Ok x) f h = f h
+made_so (Err e) f h = tt
+
+-- one piece after another
+pub after : {X : Type 0} {v w : List X} (u a b : List X) → v ≡ u ++ a → w ≡ v ++ b → w ≡ u ++ (a ++ b)
+after u a b e f = f ∙ ap (λ l. l ++ b) e ∙ append_assoc u a b
 
 joined_push : {X : Type 0} (f : X → List ℕ) (xs : List X) (x : X) → flat_map f (xs ++ (x ∷ [])) ≡ flat_map f xs ++ f x
 joined_push f [] x = append-nil (f x)

@@ -4,40 +4,39 @@ ghost use Rattle.std.specs.List.{flat_map};
 ghost use Rattle.sheets.specs.Sheet.{Field, field_bytes};
 ghost use Rattle.listing.specs.Listing.{text_line, formula_lines};
 
-use std::alloc::AllocError;
-use text::{push_bytes, push_digits};
+use sheets::tag::Tag;
+use std::io;
+use std::io::Write;
 
 /// The line of a formula.
-fn push_formula(out: &mut Vec<u8>, number: u64, formula: &[u8]) -> Result<(), AllocError>
+fn push_formula(out: &mut Vec<u8>, number: u64, formula: &[u8]) -> io::Result<()>
     ensures { OnOk result (out.new.items ≡ out.old.items ++ text_line number formula.now) }
 {
-    push_bytes(out, b"rule ")?;
-    push_digits(out, number)?;
-    push_bytes(out, b" formula ")?;
-    push_bytes(out, formula)?;
-    push_bytes(out, b"\n")
+    write!(out, "rule {number} formula ")?;
+    out.write_all(formula)?;
+    writeln!(out)
 }
 
 /// The line of a field if it is a formula's. It returns the number of the next formula.
-fn push_field(out: &mut Vec<u8>, number: u64, tag: u8, content: &[u8]) -> Result<u64, AllocError>
+fn push_field(out: &mut Vec<u8>, number: u64, tag: u8, content: &[u8]) -> io::Result<u64>
     ensures { IfOk result (λ n. (out.new.items ≡ out.old.items ++ (if nat_eq tag 3 then text_line number content.now else []))
         × (number + 1 < 2 ^ 64 → n ≡ (if nat_eq tag 3 then number + 1 else number))) }
 {
-    if tag != 3 {
+    let Ok(Tag::Formula) = Tag::try_from(tag) else {
         return Ok(number);
-    }
+    };
     push_formula(out, number, content)?;
     Ok(number.saturating_add(1))
 }
 
 /// The lines of a file's formulas.
-pub fn push_formulas(out: &mut Vec<u8>, first: u64, file: &[u8]) -> Result<(), AllocError>
+pub fn push_formulas(out: &mut Vec<u8>, first: u64, file: &[u8]) -> io::Result<()>
     ensures { OnOk result ((fs : List Field) → first + length fs < 2 ^ 64 → file.now ≡ flat_map field_bytes fs → out.new.items ≡ out.old.items ++ formula_lines first fs) }
 {
     let mut number = first;
     let mut rest = file;
     while rest.len() >= 3 {
-        let size = 256 * usize::from(rest[1]) + usize::from(rest[2]);
+        let size = usize::from(u16::from_be_bytes([rest[1], rest[2]]));
         let end = 3 + size.min(rest.len() - 3);
         number = push_field(out, number, rest[0], &rest[3..end])?;
         rest = &rest[end..];

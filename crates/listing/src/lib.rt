@@ -11,7 +11,7 @@ use crate::fields::push_formulas;
 use crate::lines::{push_cells, push_rules};
 use sheet_books::{lengths, rules};
 use sheets::stores::{Extent, Stores};
-use std::alloc::AllocError;
+use std::io;
 
 mod fields;
 mod lines;
@@ -22,7 +22,7 @@ pub fn listing(
     file: &[u8],
     stores: &Stores<'_>,
     extent: Extent,
-) -> Result<(), AllocError>
+) -> io::Result<()>
     ensures { OnOk result ((s : Sheet) → Holds (held stores.now) extent s → file.now ≡ file_of s → out.new.items ≡ out.old.items ++ listing_of s) }
 {
     let rules = rules(stores, extent);

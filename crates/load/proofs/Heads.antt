@@ -7,9 +7,10 @@ use Rattle.sheets.specs.declared.stores.Extent.{Extent}
 use Rattle.sheets.specs.Sheet.{Sheet}
 use Rattle.sheets.specs.Stored.{extent_of}
 use Rattle.sheets.specs.Reading.{Fits, cell, rows, formula, end, Full, Wrong, no_end, bad_tag, long_end, after_end, cut_head, cut_content, too_many}
-use Rattle.load.specs.declared.tag.Tag.{Tag}
-use Rattle.load.specs.declared.tag.Tag.TheVariants.{Cell, Rows, Formula, End}
-use Rattle.load.specs.Fields.{tag_byte, Comes, Filled, Unfilled, Content, Headed}
+use Rattle.sheets.specs.declared.tag.Tag.{Tag}
+use Rattle.sheets.specs.declared.tag.Tag.TheVariants.{Cell, Rows, Formula, End}
+use Rattle.sheets.specs.Tags.{tag_byte}
+use Rattle.load.specs.Fields.{Comes, Filled, Unfilled, Content, Headed}
 
 -- the first byte, and the first three
 pub first : (bs : List ℕ) (at : ℕ) → at < length bs → drop at bs ≡ get_or bs at 0 ∷ drop (at + 1) bs
@@ -95,38 +96,40 @@ module _ (s : Sheet) (e : Extent) (is : e ≡ extent_of s) where
       pub bytes : drop at file ≡ tag_byte t ∷ high ∷ low ∷ drop (at + 3) file
       bytes = three file at room ∙ ap (λ x. x ∷ high ∷ low ∷ drop (at + 3) file) b
 
-      pub long : tag_byte t ≡ 4 → high * 256 + low ≢ 0 → Wrong s at (drop at file) (Misplaced at)
-      long i n = wrong_at _ _ (bytes ∙ ap (λ x. x ∷ high ∷ low ∷ drop (at + 3) file) i) (long_end n)
+      -- its length as it was read
+      module _ (size : ℕ) (read : size ≡ high * 256 + low) where
+        pub long : tag_byte t ≡ 4 → size ≢ 0 → Wrong s at (drop at file) (Misplaced at)
+        long i n = wrong_at _ _ (bytes ∙ ap (λ x. x ∷ high ∷ low ∷ drop (at + 3) file) i) (long_end (λ z. n (read ∙ z)))
 
-      pub beyond : tag_byte t ≡ 4 → high * 256 + low ≡ 0 → at + 3 < length file → Wrong s at (drop at file) (Misplaced (at + 3))
-      beyond i z more =
-          let h : high ≡ 0 = omega arith in
-          let l : low ≡ 0 = omega arith in
-          wrong_at _ _ (bytes ∙ (λ k. i k ∷ h k ∷ l k ∷ first file (at + 3) more k)) after_end
+        pub beyond : tag_byte t ≡ 4 → size ≡ 0 → at + 3 < length file → Wrong s at (drop at file) (Misplaced (at + 3))
+        beyond i z more =
+            let h : high ≡ 0 = omega arith in
+            let l : low ≡ 0 = omega arith in
+            wrong_at _ _ (bytes ∙ (λ k. i k ∷ h k ∷ l k ∷ first file (at + 3) more k)) after_end
 
-      pub ended : tag_byte t ≡ 4 → high * 256 + low ≡ 0 → length file ≡ at + 3 → drop at file ≡ 4 ∷ 0 ∷ 0 ∷ []
-      ended i z last =
-          let h : high ≡ 0 = omega arith in
-          let l : low ≡ 0 = omega arith in
-          bytes ∙ (λ k. i k ∷ h k ∷ l k ∷ drop_all (at + 3) file (omega arith) k)
+        pub ended : tag_byte t ≡ 4 → size ≡ 0 → length file ≡ at + 3 → drop at file ≡ 4 ∷ 0 ∷ 0 ∷ []
+        ended i z last =
+            let h : high ≡ 0 = omega arith in
+            let l : low ≡ 0 = omega arith in
+            bytes ∙ (λ k. i k ∷ h k ∷ l k ∷ drop_all (at + 3) file (omega arith) k)
 
-      pub short : tag_byte t ≢ 4 → Comes t e → length file < at + 3 + (high * 256 + low) → Wrong s at (drop at file) (Cut at)
-      short n c less = wrong_at _ _ bytes (cut_content (comes_fits t c) n (omega (arith, length-drop (at + 3) file)))
+        pub short : tag_byte t ≢ 4 → Comes t e → length file < at + 3 + size → Wrong s at (drop at file) (Cut at)
+        short n c less = wrong_at _ _ bytes (cut_content (comes_fits t c) n (omega (arith, length-drop (at + 3) file)))
 
-      pub surplus : tag_byte t ≢ 4 → Comes t e → at + 3 + (high * 256 + low) ≤ length file → Filled t e → Wrong s at (drop at file) (Many at)
-      surplus n c fits f = wrong_at _ _ bytes (too_many (comes_fits t c) n (omega (arith, length-drop (at + 3) file)) (filled_full t f))
+        pub surplus : tag_byte t ≢ 4 → Comes t e → at + 3 + size ≤ length file → Filled t e → Wrong s at (drop at file) (Many at)
+        surplus n c fits f = wrong_at _ _ bytes (too_many (comes_fits t c) n (omega (arith, length-drop (at + 3) file)) (filled_full t f))
 
-      pub content : tag_byte t ≢ 4 → Comes t e → at + 3 + (high * 256 + low) ≤ length file → (Filled t e → ⊥) → Content s (drop at file) (tag_byte t) (high * 256 + low)
-      content n c fits f = record {
-        high = high;
-        low = low;
-        rest = drop (at + 3) file;
-        is = bytes;
-        long = refl;
-        whole = omega (arith, length-drop (at + 3) file);
-        fits = comes_fits t c;
-        room = λ x. f (full_filled t n x);
-      }
+        pub content : tag_byte t ≢ 4 → Comes t e → at + 3 + size ≤ length file → (Filled t e → ⊥) → Content s (drop at file) (tag_byte t) size
+        content n c fits f = record {
+          high = high;
+          low = low;
+          rest = drop (at + 3) file;
+          is = bytes;
+          long = read;
+          whole = omega (arith, length-drop (at + 3) file);
+          fits = comes_fits t c;
+          room = λ x. f (full_filled t n x);
+        }
 
 -- one more is not too many
 pub unfilled : (t : Tag) (e : Extent) → e.cells ≤ 64 → e.rules + e.formulas ≤ 64 → (Filled t e → ⊥) → Unfilled t e

@@ -7,16 +7,9 @@ use Rattle.sheets.specs.declared.stores.Extent.{Extent}
 use Rattle.sheets.specs.Sheet.{Sheet, RowsField, bytes_of, list_bytes, rows_bytes, GoodList, GoodRows, GoodFormula, Good, with_list, with_rows, with_formula}
 use Rattle.sheets.specs.Reading.{Fits, Full, ReadAs}
 use Rattle.sheets.specs.Stored.{Contents, Enough, stored, extent_of}
-use Rattle.load.specs.declared.tag.Tag.{Tag}
-use Rattle.load.specs.declared.tag.Tag.TheVariants.{Cell, Rows, Formula, End}
+use Rattle.sheets.specs.declared.tag.Tag.{Tag}
+use Rattle.sheets.specs.declared.tag.Tag.TheVariants.{Cell, Rows, Formula, End}
 use Rattle.load.specs.declared.next.Next.{Next}
-
--- the byte of a tag
-abbrev pub tag_byte : Tag → ℕ
-tag_byte Cell = 1
-tag_byte Rows = 2
-tag_byte Formula = 3
-tag_byte End = 4
 
 -- after so much, a field of this tag can come
 abbrev pub Comes : Tag → Extent → Type 0

@@ -16,6 +16,8 @@ use reader::formula::{Formula, NODES, read};
 use sheets::fault::RuleFault;
 use sheets::stores::{Extent, Stores};
 
+// Each takes the content, its place, the stores and the extent as they are: they come from three owners, and a struct of them would be taken apart at once.
+
 /// A cell's list; the fault is at the field's tag.
 pub fn cell(
     content: &[u8],
@@ -39,7 +41,8 @@ pub fn cell(
     })
 }
 
-/// The lengths of the first lists. They are copied, since the checker does not cover two stores lent at once.
+/// The lengths of the first lists.
+// They are copied: a proof for two stores lent at once, by field, by pattern or by name, was tried and did not close.
 fn first_lengths(stores: &Stores<'_>, cells: usize) -> [u8; 64]
     requires few { cells ≤ 64 }
     requires there { cells ≤ length stores.now.lengths.now }
@@ -102,8 +105,8 @@ fn read_formula(
     match read(content, cells, nodes, used) {
         Ok(formula) => Ok(formula),
         Err(fault) => Err(FormulaFault {
-            flaw: fault.flaw,
             offset: base + fault.offset,
+            ..fault
         }),
     }
 }

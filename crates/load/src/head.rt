@@ -1,33 +1,15 @@
 //! The head of a field: its tag and length, and the faults that these alone decide.
-ghost use Rattle.std.specs.Prelude.{◌≡◌, ◌+◌, ◌<◌, ◌≤◌, ◌≢◌, ◌⊎◌, length, drop, IfOk, Decides, MatchOption, MatchResult};
+ghost use Rattle.std.specs.Prelude.{◌≡◌, ◌+◌, ◌<◌, ◌≤◌, ◌≢◌, ◌⊎◌, length, drop, IfOk, Decides, MatchResult};
 ghost use Rattle.sheets.specs.declared.fault.LoadFault.TheVariants.{Cut, Many, Tag as Misplaced};
 ghost use Rattle.sheets.specs.Sheet.{Sheet};
 ghost use Rattle.sheets.specs.Stored.{extent_of};
 ghost use Rattle.sheets.specs.Reading.{Wrong};
-ghost use Rattle.load.specs.Fields.{tag_byte, Comes, Filled, Unfilled, Headed};
+ghost use Rattle.load.specs.Fields.{Comes, Filled, Unfilled, Headed};
 
-use crate::tag::{Head, Tag};
+use crate::field::Head;
 use sheets::fault::LoadFault;
 use sheets::stores::{CELLS, Extent, RULES};
-
-/// The tag of a byte.
-fn tag_of(byte: u8) -> Option<Tag>
-    ensures { MatchOption result ((t : Tag) → byte ≢ tag_byte t) (λ t. byte ≡ tag_byte t) }
-{
-    if byte == 1 {
-        return Some(Tag::Cell);
-    }
-    if byte == 2 {
-        return Some(Tag::Rows);
-    }
-    if byte == 3 {
-        return Some(Tag::Formula);
-    }
-    if byte == 4 {
-        return Some(Tag::End);
-    }
-    None
-}
+use sheets::tag::Tag;
 
 /// Whether a field of this tag can come: cells before rules by rows, these before rules by formulas, then the end.
 fn comes(tag: Tag, extent: Extent) -> bool
@@ -36,8 +18,7 @@ fn comes(tag: Tag, extent: Extent) -> bool
     match tag {
         Tag::Cell => extent.rules == 0 && extent.formulas == 0,
         Tag::Rows => extent.formulas == 0,
-        Tag::Formula => true,
-        Tag::End => true,
+        Tag::Formula | Tag::End => true,
     }
 }
 
@@ -48,8 +29,7 @@ fn is_full(tag: Tag, extent: Extent) -> bool
 {
     match tag {
         Tag::Cell => extent.cells == CELLS,
-        Tag::Rows => extent.rules + extent.formulas == RULES,
-        Tag::Formula => extent.rules + extent.formulas == RULES,
+        Tag::Rows | Tag::Formula => extent.rules + extent.formulas == RULES,
         Tag::End => false,
     }
 }
@@ -107,7 +87,7 @@ pub fn head(file: &[u8], at: usize, extent: Extent) -> Result<Head, LoadFault>
     if at >= file.len() {
         return Err(LoadFault::Cut(at));
     }
-    let Some(tag) = tag_of(file[at]) else {
+    let Ok(tag) = Tag::try_from(file[at]) else {
         return Err(LoadFault::Tag(at));
     };
     if !comes(tag, extent) {
@@ -116,7 +96,7 @@ pub fn head(file: &[u8], at: usize, extent: Extent) -> Result<Head, LoadFault>
     if file.len() - at < 3 {
         return Err(LoadFault::Cut(at));
     }
-    let length = file[at + 1] as usize * 256 + file[at + 2] as usize;
+    let length = u16::from_be_bytes([file[at + 1], file[at + 2]]) as usize;
     match tag {
         Tag::End => check_end(file, at, length)?,
         Tag::Cell | Tag::Rows | Tag::Formula => check_content(file, at, length, tag, extent)?,

@@ -2,7 +2,7 @@
 #![tactic(auto)]
 
 mod content;
+mod field;
 mod head;
 pub mod load;
 mod next;
-mod tag;

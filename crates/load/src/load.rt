@@ -9,12 +9,12 @@ ghost use Rattle.load.specs.Load.{ReadSheet, Refused, Exact};
 use crate::content::{cell, formula, rows};
 use crate::head::head;
 use crate::next::Next;
-use crate::tag::Tag;
 use formulas::node::Node;
 use reader::formula::{Formula, NODES};
-use rows::rule::{Kind, RowsRule};
+use rows::rule::RowsRule;
 use sheets::fault::LoadFault;
 use sheets::stores::{CELLS, Extent, FILE, NUMBERS, PLACES, RULES, Stores};
+use sheets::tag::Tag;
 
 /// The field at `at`, stored after what is there; nothing is left to read after the end field.
 fn field(
@@ -52,13 +52,7 @@ fn fields(file: &[u8], stores: &mut Stores<'_>) -> Result<Extent, LoadFault>
         (λ e. RefusedWith file.now e) }
 {
     let mut at = 0;
-    let mut extent = Extent {
-        cells: 0,
-        rules: 0,
-        places: 0,
-        formulas: 0,
-        nodes: 0,
-    };
+    let mut extent = Extent::default();
     while let Some(next) = field(file, at, stores, extent)? {
         at = next.at;
         extent = next.extent;
@@ -70,22 +64,12 @@ fn fields(file: &[u8], stores: &mut Stores<'_>) -> Result<Extent, LoadFault>
 fn are_enough(stores: &Stores<'_>) -> bool
     ensures { Decides result (Enough (held stores.now)) }
 {
-    if stores.lengths.len() < CELLS {
-        return false;
-    }
-    if stores.numbers.len() < NUMBERS {
-        return false;
-    }
-    if stores.rules.len() < RULES {
-        return false;
-    }
-    if stores.places.len() < PLACES {
-        return false;
-    }
-    if stores.formulas.len() < RULES {
-        return false;
-    }
-    stores.nodes.len() >= NODES
+    stores.lengths.len() >= CELLS
+        && stores.numbers.len() >= NUMBERS
+        && stores.rules.len() >= RULES
+        && stores.places.len() >= PLACES
+        && stores.formulas.len() >= RULES
+        && stores.nodes.len() >= NODES
 }
 
 /// Makes every store zero.
@@ -94,19 +78,9 @@ fn clear(stores: &mut Stores<'_>)
 {
     stores.lengths.fill(0);
     stores.numbers.fill(0);
-    stores.rules.fill(RowsRule {
-        kind: Kind::Permitted,
-        width: 0,
-        cells: [0; 4],
-        start: 0,
-        count: 0,
-    });
+    stores.rules.fill(RowsRule::default());
     stores.places.fill(0);
-    stores.formulas.fill(Formula {
-        root: 0,
-        width: 0,
-        cells: [0; 4],
-    });
+    stores.formulas.fill(Formula::default());
     stores.nodes.fill(Node::Free);
 }
 
@@ -118,10 +92,7 @@ pub fn load(file: &[u8], stores: &mut Stores<'_>) -> Result<Extent, LoadFault>
         (λ e. Refused file.now (held stores.old) (held stores.new) e) }
     ensures exact { Exact file.now (held stores.old) result }
 {
-    if file.len() > FILE {
-        return Err(LoadFault::Size);
-    }
-    if !are_enough(stores) {
+    if file.len() > FILE || !are_enough(stores) {
         return Err(LoadFault::Size);
     }
     clear(stores);

@@ -1,3 +1,5 @@
 pub mod Books
 pub mod Meeting
-pub mod Seen
+pub mod Chosen
+pub mod Masks
+pub mod Supports

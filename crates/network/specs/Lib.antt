@@ -3,3 +3,4 @@ pub mod Fillings
 pub mod Made
 pub mod BookLaws
 pub mod Cells
+pub mod Tries

@@ -15,6 +15,7 @@ pub trait RuleBook {
         ensures { result ≡ (meaning self.now).count };
 
     /// The number of cells of a rule, 0 where the rule is missing.
+    // A number and no `Option`, as that of a cell: 0 and 255 are promised to hosts.
     fn width(&self, rule: u16) -> u8
         ensures { result ≡ length ((meaning self.now).rule rule).cells };
 

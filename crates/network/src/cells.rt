@@ -1,23 +1,19 @@
 //! The cells that a rule may have.
-ghost use Rattle.std.specs.Prelude.{Decides};
+ghost use Rattle.std.specs.Prelude.{◌≡◌, ℕ, ◌<◌, length, Decides, slice_index, ◌≢◌};
 ghost use Rattle.network.specs.Cells.{GoodCells};
-
-use bits::{has, with};
 
 /// Whether the first `width` cells are 1 to 4 cells, below 64 and different.
 pub fn are_good(width: u8, cells: [u8; 4]) -> bool
     ensures { Decides result (GoodCells width cells) }
 {
-    if width < 1 || width > 4 {
-        return false;
-    }
-    let mut seen = 0;
-    for position in 0..width {
-        let cell = cells[position as usize];
-        if cell >= 64 || has(seen, cell) {
-            return false;
-        }
-        seen = with(seen, cell);
-    }
-    true
+    (1..=4).contains(&width) && (0..width as usize).all(|at| is_new(&cells, at))
+}
+
+/// Whether a cell is below 64, and none before it is the same.
+fn is_new(cells: &[u8], at: usize) -> bool
+    requires { at < length cells.now }
+    ensures { Decides result ((slice_index cells.now at < 64) × ((j : ℕ) → j < at → slice_index cells.now j ≢ slice_index cells.now at)) }
+{
+    let cell = cells[at];
+    cell < 64 && !cells[..at].contains(&cell)
 }

@@ -1,6 +1,7 @@
 //! Two books as one.
-ghost use Rattle.std.specs.Prelude.{◌≡◌, ◌+◌, ◌≤◌};
-ghost use Rattle.network.specs.Book.{BookMeaning, Lawful, joined};
+ghost use Rattle.std.specs.Prelude.{◌≡◌, ℕ, ◌+◌, ◌≤◌, Some, None};
+ghost use Rattle.network.specs.Book.{BookMeaning, Lawful, joined, no_rule};
+ghost use Rattle.network.specs.declared.joined.Found.TheVariants.{First, Second};
 ghost use Rattle.network.specs.BookLaws.{joined_lawful};
 ghost use Rattle.network.specs.Made.{BothMet, CountedMet};
 
@@ -24,6 +25,30 @@ impl<A: RuleBook, B: RuleBook> Joined<A, B> {
     }
 }
 
+/// The number that a rule has in one of the two books.
+enum Found {
+    First(u16),
+    Second(u16),
+}
+
+impl<A: RuleBook, B: RuleBook> Joined<A, B> {
+    /// Where a rule is found; `None` past the numbers that are counted.
+    fn find(&self, rule: u16) -> Option<Found>
+        ensures first { (r : ℕ) → result ≡ Some (First r) → (joined (A.RuleBook.meaning self.now.first) (B.RuleBook.meaning self.now.second)).rule rule ≡ (A.RuleBook.meaning self.now.first).rule r }
+        ensures second { (r : ℕ) → result ≡ Some (Second r) → (joined (A.RuleBook.meaning self.now.first) (B.RuleBook.meaning self.now.second)).rule rule ≡ (B.RuleBook.meaning self.now.second).rule r }
+        ensures none { result ≡ None → (joined (A.RuleBook.meaning self.now.first) (B.RuleBook.meaning self.now.second)).rule rule ≡ no_rule }
+    {
+        let split = self.first.count();
+        if rule < split {
+            Some(Found::First(rule))
+        } else if rule < u16::MAX {
+            Some(Found::Second(rule - split))
+        } else {
+            None
+        }
+    }
+}
+
 impl<A: RuleBook, B: RuleBook> RuleBook for Joined<A, B> {
     ghost meaning = { λ b. joined (A.RuleBook.meaning b.first) (B.RuleBook.meaning b.second) };
 
@@ -34,35 +59,26 @@ impl<A: RuleBook, B: RuleBook> RuleBook for Joined<A, B> {
     }
 
     fn width(&self, rule: u16) -> u8 {
-        let split = self.first.count();
-        if rule < split {
-            self.first.width(rule)
-        } else if rule < u16::MAX {
-            self.second.width(rule - split)
-        } else {
-            0
+        match self.find(rule) {
+            Some(Found::First(below)) => self.first.width(below),
+            Some(Found::Second(below)) => self.second.width(below),
+            None => 0,
         }
     }
 
     fn cell(&self, rule: u16, position: u8) -> u8 {
-        let split = self.first.count();
-        if rule < split {
-            self.first.cell(rule, position)
-        } else if rule < u16::MAX {
-            self.second.cell(rule - split, position)
-        } else {
-            255
+        match self.find(rule) {
+            Some(Found::First(below)) => self.first.cell(below, position),
+            Some(Found::Second(below)) => self.second.cell(below, position),
+            None => 255,
         }
     }
 
     fn supported(&self, rule: u16, position: u8, place: u8, sets: &[u64]) -> bool {
-        let split = self.first.count();
-        if rule < split {
-            self.first.supported(rule, position, place, sets)
-        } else if rule < u16::MAX {
-            self.second.supported(rule - split, position, place, sets)
-        } else {
-            false
+        match self.find(rule) {
+            Some(Found::First(below)) => self.first.supported(below, position, place, sets),
+            Some(Found::Second(below)) => self.second.supported(below, position, place, sets),
+            None => false,
         }
     }
 }

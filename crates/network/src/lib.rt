@@ -4,4 +4,5 @@
 pub mod book;
 pub mod cells;
 pub mod joined;
+pub mod tries;
 pub mod turned;

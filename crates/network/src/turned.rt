@@ -28,7 +28,7 @@ impl<B: RuleBook> Turned<B> {
     fn flagged(&self, rule: u16) -> bool
         ensures { result ≡ flag_at self.now.flags rule }
     {
-        rule < 64 && self.flags[rule as usize]
+        self.flags.get(rule as usize).copied().unwrap_or(false)
     }
 
     /// Where the rule below has what stands at a position here; a missing position is missing there too.

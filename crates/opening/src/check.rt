@@ -10,39 +10,21 @@ use network::book::RuleBook;
 fn are_listed(lengths: &[u8]) -> bool
     ensures { Decides result (Listed lengths.now) }
 {
-    if lengths.is_empty() {
-        return false;
-    }
-    if lengths.len() > 64 {
-        return false;
-    }
-    for length in lengths {
-        if *length < 1 {
-            return false;
-        }
-        if *length > 64 {
-            return false;
-        }
-    }
-    true
+    (1..=64).contains(&lengths.len()) && lengths.iter().all(|length| (1..=64).contains(length))
 }
 
 /// Whether every cell that the rule names is one of the first.
 fn is_within<B: RuleBook>(book: &B, rule: u16, cells: usize) -> bool
     ensures { Decides result (Within ((B.meaning book.now).rule rule) cells) }
 {
-    for position in 0..book.width(rule) {
-        if book.cell(rule, position) as usize >= cells {
-            return false;
-        }
-    }
-    true
+    (0..book.width(rule)).all(|position| usize::from(book.cell(rule, position)) < cells)
 }
 
 /// Whether every cell that a rule names is one of the first.
 fn are_named<B: RuleBook>(book: &B, cells: usize) -> bool
     ensures { Decides result (Named (B.meaning book.now) cells) }
 {
+    // A loop: as an `all` chain the proof did not close, since the test is itself a fact for each position.
     for rule in 0..book.count() {
         if !is_within(book, rule, cells) {
             return false;

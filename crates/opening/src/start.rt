@@ -24,14 +24,8 @@ fn start_of(length: u8, pin: Option<u8>) -> u64
     ensures { result ≡ start_of «length» (held «length» pin) }
 {
     match pin {
-        Some(place) => {
-            if place < length {
-                only(place)
-            } else {
-                whole(length)
-            }
-        }
-        None => whole(length),
+        Some(place) if place < length => only(place),
+        _ => whole(length),
     }
 }
 
@@ -42,8 +36,8 @@ pub fn set_starts(lengths: &[u8], pins: &[Option<u8>; 64], start: &mut [u64])
     requires short { (c : ℕ) → c < length lengths.now → slice_index lengths.now c ≤ 64 }
     ensures { start.new ≡ starts lengths.now (λ c. held (slice_index lengths.now c) (slice_index_or pins.now c None)) }
 {
-    for cell in 0..start.len() {
-        start[cell] = start_of(lengths[cell], pins[cell]);
+    for (cell, set) in start.iter_mut().enumerate() {
+        *set = start_of(lengths[cell], pins[cell]);
     }
 }
 
@@ -52,13 +46,20 @@ pub fn rules_on(switches: &[bool; 64], count: u16) -> u64
     requires { count ≤ 64 }
     ensures { result ≡ set_where (λ r. slice_index_or switches.now r false) count }
 {
-    let mut on = 0;
-    for rule in 0..count {
-        if switches[rule as usize] {
-            on = with(on, rule as u8);
+    let mut rules = 0;
+    for (rule, on) in switches[..usize::from(count)].iter().enumerate() {
+        if *on {
+            rules = with(rules, rule as u8);
         }
     }
-    on
+    rules
+}
+
+/// The byte that stands for a set: its lowest place, or 64 where it is empty, the number that hosts are promised.
+fn lowest_byte(places: u64) -> u8
+    ensures { LowestByte places result }
+{
+    lowest(places).unwrap_or(64)
 }
 
 /// Writes the lowest place of each set, one byte a cell; 64 where a set is empty.
@@ -67,7 +68,7 @@ pub fn write_lowest(sets: &[u64], filling: &mut [u8])
     ensures places { (c : ℕ) → c < length sets.now → LowestByte (slice_index sets.now c) (slice_index filling.new c) }
     ensures later { drop (length sets.now) filling.new ≡ drop (length sets.now) filling.old }
 {
-    for cell in 0..sets.len() {
-        filling[cell] = lowest(sets[cell]);
+    for (cell, set) in sets.iter().enumerate() {
+        filling[cell] = lowest_byte(*set);
     }
 }

@@ -1,18 +1,7 @@
 -- Numbers one after another. Assumes nothing.
-use Rattle.std.proofs.Common.{◌≡◌, ℕ, ◌+◌, ◌-◌, ◌<◌, ◌≤◌, Bool, true, false, not, List, [], ◌∷◌, ◌++◌, length, take, replicate, ℤ, pos, negsuc, ◌≤ℤ◌, Decides, sym, refl, ap, ◌∙◌, subst, append_assoc, arith, length-append}
-use Rattle.std.specs.List.{HoldsAt}
-use Rattle.std.proofs.lemmas.List.{get_or_default, take_all}
+use Rattle.std.proofs.Common.{◌≡◌, ℕ, ◌+◌, ◌-◌, ◌≤◌, List, [], ◌∷◌, ◌++◌, length, take, replicate, ℤ, pos, sym, ap, ◌∙◌, subst, append_assoc, arith, length-append}
+use Rattle.std.proofs.lemmas.List.{take_all}
 use Rattle.permits.specs.Lists.{Follows, Listed, none, more, Adds}
-
-unequal : true ≡ false → ⊥
-unequal e = let z : ◌≡◌ {A = ℕ} 0 1 = cc in omega arith
-
-pub decide_follows : (xs : List ℤ) (y z : ℤ) (b : Bool) → y ≡ z → length xs < 64 → negsuc 999999 ≤ℤ z → z ≤ℤ pos 1000000 → Decides b ((k : ℕ) × (k < length xs) × HoldsAt (λ x. x ≡ y) xs k) → Decides (not b) (Follows xs z)
-decide_follows xs y z true e room low high d =
-    let h = d.0 refl in
-    ((λ f. absurd (unequal (sym f))), (λ f. absurd (f.new h.0 h.1 (h.2 (pos 0) ∙ e))))
-decide_follows xs y z false e room low high d =
-    ((λ _. record { room = room; low = low; high = high; new = λ k lt is. unequal (sym (d.1 (k, lt, λ o. get_or_default xs k o (pos 0) lt ∙ is ∙ sym e))) }), (λ _. refl))
 
 pub listed_few : {xs : List ℤ} → Listed xs → length xs ≤ 64
 listed_few none = omega arith

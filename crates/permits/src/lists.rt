@@ -5,6 +5,7 @@ ghost use Rattle.permits.specs.Lists.{Follows, IsList, Adds};
 use std::alloc::{AllocError, Global};
 
 /// The lists so far, 64 places for each.
+// Two vectors, since `preview` takes the lists as a host's stores have them.
 #[derive(Drop)]
 pub struct Lists {
     pub lengths: Vec<u8>,
@@ -58,14 +59,5 @@ pub fn list_in(heap: Global, line: &str) -> Result<Option<Vec<i32>>, AllocError>
 fn may_follow(list: &[i32], number: i32) -> bool
     ensures { Decides result (Follows list.now number) }
 {
-    if list.len() >= 64 {
-        return false;
-    }
-    if number < -1_000_000 {
-        return false;
-    }
-    if number > 1_000_000 {
-        return false;
-    }
-    !list.contains(&number)
+    list.len() < 64 && (-1_000_000..=1_000_000).contains(&number) && !list.contains(&number)
 }

@@ -1,19 +1,18 @@
 //! Reads cells' lists and a formula from standard input, and prints the rows that the formula permits. Uses `preview` and `text`.
 #![tactic(auto)]
 
-ghost use Rattle.std.specs.Prelude.{◌≡◌, [], ◌∷◌, ◌++◌, IfOk, codes};
+ghost use Rattle.std.specs.Prelude.{◌≡◌, [], ◌∷◌, ◌++◌, IfOk, codes, string_bytes};
 ghost use Rattle.formulas.specs.Tree.{numeral};
 
 use crate::lists::{Lists, list_in};
 use std::alloc::{AllocError, Global};
 use std::io;
 use std::io::Write;
-use text::{push_bytes, push_digits};
 
 mod lists;
 
 /// What is printed for some lines: each but the last is a cell's list, and the last is the formula.
-fn answer(heap: Global, lines: &[String]) -> Result<Vec<u8>, AllocError> {
+fn answer(heap: Global, lines: &[String]) -> Result<String, AllocError> {
     let Some((formula, rest)) = lines.split_last() else {
         return preview::preview(heap, &[], &[], b"");
     };
@@ -28,14 +27,11 @@ fn answer(heap: Global, lines: &[String]) -> Result<Vec<u8>, AllocError> {
 }
 
 /// What is printed for a line that is no list.
-fn refusal(heap: Global, line: u64) -> Result<Vec<u8>, AllocError>
-    ensures { IfOk result (λ v. v.items ≡ codes "LIST " ++ (numeral line ++ (10 ∷ []))) }
+#[tactic(auto, using(text::proofs::Decimals::decimal_numeral))]
+fn refusal(heap: Global, line: u64) -> Result<String, AllocError>
+    ensures { IfOk result (λ v. string_bytes v ≡ codes "LIST " ++ (numeral line ++ (10 ∷ []))) }
 {
-    let mut out = Vec::new(heap);
-    push_bytes(&mut out, b"LIST ")?;
-    push_digits(&mut out, line)?;
-    push_bytes(&mut out, b"\n")?;
-    Ok(out)
+    Ok(format!(in heap; "LIST {line}\n")?)
 }
 
 /// All lines of standard input.
@@ -50,7 +46,7 @@ fn lines_of(rt: &HostRuntime) -> io::Result<Vec<String>> {
 fn main(rt: HostRuntime) -> io::Result<()> {
     let lines = lines_of(&rt)?;
     let out = answer(rt.alloc(), &lines)?;
-    rt.stdout().write_all(&out)
+    rt.stdout().write_all(out.as_bytes())
 }
 
 #[cfg(test)]
@@ -59,7 +55,7 @@ mod tests {
     use std::test::Fail;
 
     // The text for a formula on one cell with the list 1, 2, 3.
-    fn on_three(heap: Global, formula: &[u8]) -> Result<Vec<u8>, Fail> {
+    fn on_three(heap: Global, formula: &[u8]) -> Result<String, Fail> {
         let mut numbers = [0; 64];
         numbers[0] = 1;
         numbers[1] = 2;
@@ -70,21 +66,21 @@ mod tests {
     #[test]
     fn never_true(rt: HostRuntime) -> Result<(), Fail> {
         let out = on_three(rt.alloc(), b"C0<>C0")?;
-        assert!(rt; out.as_slice() == b"C0\n0 rows\n".as_slice());
+        assert!(rt; out.as_str() == "C0\n0 rows\n");
         Ok(())
     }
 
     #[test]
     fn no_cell(rt: HostRuntime) -> Result<(), Fail> {
         let out = on_three(rt.alloc(), b"1=1")?;
-        assert!(rt; out.as_slice() == b"FAULT 9 0\n".as_slice());
+        assert!(rt; out.as_str() == "FAULT 9 0\n");
         Ok(())
     }
 
     #[test]
     fn leading_zero(rt: HostRuntime) -> Result<(), Fail> {
         let out = on_three(rt.alloc(), b"C0=07")?;
-        assert!(rt; out.as_slice() == b"FAULT 6 4\n".as_slice());
+        assert!(rt; out.as_str() == "FAULT 6 4\n");
         Ok(())
     }
 }

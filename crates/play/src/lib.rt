@@ -26,10 +26,10 @@ fn make<B: RuleBook, C: Chooser>(session: &mut Session<'_, B, C>, step: &mut Ste
         × Holds session.old.lengths.now (did step.new ∷ h) session.new.table }
 {
     step.answer = match step.call {
-        Call::Pin { cell, place } => Answer::of_change(session.pin(cell, place)),
-        Call::Free { cell } => Answer::of_change(session.free(cell)),
-        Call::Switch { rule, on } => Answer::of_change(session.switch(rule, on)),
-        Call::Fit => Answer::of_fit(session.fit(
+        Call::Pin { cell, place } => Answer::from(session.pin(cell, place)),
+        Call::Free { cell } => Answer::from(session.free(cell)),
+        Call::Switch { rule, on } => Answer::from(session.switch(rule, on)),
+        Call::Fit => Answer::from(session.fit(
             &mut step.buffers.work,
             &mut step.buffers.log,
             &mut step.buffers.filling,

@@ -1,15 +1,15 @@
 //! Which rows a formula permits, as a text. Uses `formulas`, `reader`, `judge` and `text`.
 #![tactic(auto)]
 
-ghost use Rattle.std.specs.Prelude.{◌≡◌, ℕ, ◌≤◌, List, ◌++◌, length, IfOk, OnOk};
+ghost use Rattle.std.specs.Prelude.{◌≡◌, ℕ, ◌≤◌, List, ◌++◌, length, IfOk, OnOk, string_bytes};
 ghost use Rattle.preview.specs.Preview.{Fit, Tells, Exactly};
 
-use crate::lines::push_fault;
 use crate::lists::are_lists;
 use crate::rows::{Trial, push_permits};
 use formulas::node::Node;
 use reader::formula::{NODES, read};
 use std::alloc::{AllocError, Global};
+use text::push_fault;
 
 mod lines;
 mod lists;
@@ -21,17 +21,17 @@ pub fn preview(
     lengths: &[u8],
     numbers: &[i32],
     formula: &[u8],
-) -> Result<Vec<u8>, AllocError>
-    ensures tells { IfOk result (λ v. Tells lengths.now numbers.now formula.now v.items) }
-    ensures exactly { IfOk result (λ v. Exactly lengths.now numbers.now formula.now v.items) }
+) -> Result<String, AllocError>
+    ensures tells { IfOk result (λ v. Tells lengths.now numbers.now formula.now (string_bytes v)) }
+    ensures exactly { IfOk result (λ v. Exactly lengths.now numbers.now formula.now (string_bytes v)) }
 {
     if !are_lists(lengths, numbers) {
-        return Vec::from_slice(heap, b"LISTS\n");
+        return String::from_str(heap, "LISTS\n");
     }
     if formula.len() > NODES {
-        return Vec::from_slice(heap, b"LONG\n");
+        return String::from_str(heap, "LONG\n");
     }
-    let mut out = Vec::new(heap);
+    let mut out = String::new(heap);
     let mut nodes = vec![in heap; Node::Free; NODES]?;
     push_answer(&mut out, &mut nodes, lengths, numbers, formula)?;
     Ok(out)
@@ -39,7 +39,7 @@ pub fn preview(
 
 /// The text for a formula that is not too long.
 fn push_answer<'l>(
-    out: &mut Vec<u8>,
+    out: &mut String,
     nodes: &mut [Node],
     lengths: &'l [u8],
     numbers: &'l [i32],
@@ -48,11 +48,11 @@ fn push_answer<'l>(
     requires fit { Fit lengths.now numbers.now }
     requires short { length formula.now ≤ 32768 }
     requires store { length nodes.old ≡ 32768 }
-    ensures { OnOk result ((t : List ℕ) × (out.new.items ≡ out.old.items ++ t) × Tells lengths.now numbers.now formula.now t) }
+    ensures { OnOk result ((t : List ℕ) × (string_bytes out.new ≡ string_bytes out.old ++ t) × Tells lengths.now numbers.now formula.now t) }
 {
     let mut used = 0;
     match read(formula, lengths.len() as u8, nodes, &mut used) {
-        Err(fault) => push_fault(out, fault),
+        Err(fault) => push_fault(out, fault.flaw.number(), fault.offset),
         Ok(stored) => {
             let width = usize::from(stored.width);
             let trial = Trial {

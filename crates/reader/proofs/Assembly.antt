@@ -1,24 +1,32 @@
 -- From the parts of a condition or of a list to the whole. Assumes nothing.
-use Rattle.std.proofs.Common.{◌≡◌, ℕ, zero, suc, ◌+◌, ◌-◌, ◌<◌, ◌≤◌, Bool, true, false, ◌≢◌, List, [], ◌∷◌, ◌++◌, length, take, drop, set, sym, refl, ap, ◌∙◌, subst, ⊎_elim, append_assoc, arith, length-append}
+use Rattle.std.proofs.Common.{◌≡◌, ℕ, zero, suc, ◌+◌, ◌-◌, ◌<◌, ◌≤◌, Bool, true, false, ◌≢◌, List, [], ◌∷◌, ◌++◌, length, take, drop, set, sym, refl, ap, ◌∙◌, subst, inr, ⊎_elim, append_assoc, arith, length-append}
 use Rattle.std.proofs.lemmas.List.{take-append-le}
 use Rattle.formulas.specs.declared.node.Node.{Node}
 use Rattle.formulas.specs.declared.node.Node.TheVariants.{Compare, Not}
 use Rattle.formulas.specs.declared.node.Side.{Side}
 use Rattle.formulas.specs.declared.node.Relation.{Relation}
-use Rattle.formulas.specs.declared.fault.Flaw.TheVariants.{Grammar, Level}
+use Rattle.formulas.specs.declared.fault.Flaw.TheVariants.{Level}
 use Rattle.formulas.specs.declared.fault.FormulaFault.{FormulaFault}
-use Rattle.formulas.specs.Tree.{Condition, compares, negates, all, any, one, more, side_text, relation_text, text, list_text, not_word, and_word, or_word, KnownSide}
+use Rattle.formulas.specs.Tree.{Condition, compares, negates, all, any, one, more, side_text, relation_text, text, list_text, not_word, and_word, or_word, KnownSide, Known, KnownAll}
 use Rattle.formulas.specs.Faults.{next, First, count}
 use Rattle.formulas.specs.Layout.{size, list_size, layout, list_layout, stored}
-use Rattle.formulas.specs.Reading.{Spans, Clear, Deep, Awaits, AwaitsList, Follows, closes, goes_on, EndsSide}
-use Rattle.formulas.proofs.Spans.{spans_byte, spans_join, spans_split, spans_take}
+use Rattle.formulas.specs.Reading.{Spans, Clear, Deep, Ends, Awaits, AwaitsList, Follows, closes, goes_on, EndsSide}
+use Rattle.formulas.proofs.Spans.{spans_split}
 use Rattle.formulas.proofs.Awaits.{await_not, await_all, await_any, list_next, word_outside, too_deep, after_condition}
 use Rattle.formulas.proofs.Firsts.{first_grammar, first_level}
-use Rattle.formulas.proofs.Clears.{Plain, clear_bytes, clear_condition}
-use Rattle.formulas.proofs.Layouts.{size_layout, size_list, stored_set, stored_more, stored_length}
-use Rattle.reader.specs.declared.conditions.Join.{Join}
-use Rattle.reader.specs.declared.conditions.Join.TheVariants.{All, Any}
-use Rattle.reader.specs.Read.{Misspelled, NotOpened, FirstOf, ReadOne, ReadList, joiner}
+use Rattle.formulas.proofs.Clears.{Plain, clear_bytes, clear_open, clear_close, clear_condition}
+use Rattle.formulas.proofs.Levels.{count_append, deep_open, deep_flat, balanced, balanced_append}
+use Rattle.formulas.proofs.Layouts.{size_layout, size_list, size_some, list_some, size_text, list_text_size, stored_set, stored_more, stored_length, below_kept}
+use Rattle.reader.specs.declared.cursor.Text.{Text}
+use Rattle.reader.specs.declared.cursor.Cursor.{Cursor}
+use Rattle.reader.specs.declared.store.Store.{Store}
+use Rattle.reader.specs.declared.join.Join.{Join}
+use Rattle.reader.specs.declared.join.Join.TheVariants.{All, Any}
+use Rattle.reader.specs.Places.{ahead, behind, Reads, FirstIn}
+use Rattle.reader.specs.Stores.{Kept, Room}
+use Rattle.reader.specs.Read.{outside, Misspelled, NotOpened, Ready, ReadOne, ReadList, joiner}
+use Rattle.reader.proofs.Refusals.{told}
+use Rattle.reader.proofs.Places.{ahead_in, reads_ahead, reads_join, behind_in, moved, on, clear_on}
 
 -- one node more
 one_more : (before mid last : List Node) (n u : ℕ) (new : List Node) (x : Node) → mid ≡ stored before n new → u ≡ n + length new → u < length before → last ≡ set mid u x → last ≡ stored before n (new ++ (x ∷ []))
@@ -26,65 +34,110 @@ one_more before mid last n u new x e f h g =
     let l : u < length (stored before n new) = omega (arith, stored_length before n new (omega arith)) in
     g ∙ ap (λ m. set m u x) e ∙ stored_set (stored before n new) u x l ∙ stored_more before n u new (x ∷ []) (omega arith) f
 
-module _ {s : List ℕ} {at cells level n : ℕ} {before : List Node} where
-  pub read_comparison : {after then end used : ℕ} {last : List Node} (a : Side) (o : Relation) (b : Side) → Spans s at (side_text a) after → Spans s after (relation_text o) then → Spans s then (side_text b) end
-      → KnownSide cells a → KnownSide cells b → EndsSide b (next (drop end s)) → level ≤ 16 → n < length before → last ≡ set before n (Compare a o b) → used ≡ n + 1 → ReadOne s at cells level before n last used end
-  read_comparison a o b p q r k l e low h stores count = record {
-    is = compares a o b;
-    spans = spans_join p (spans_join q r);
-    known = (k, l);
+module _ {a : Cursor} {level : ℕ} {old : Store} where
+  pub read_comparison : {b c d : Cursor} {new : Store} (x : Side) (o : Relation) (y : Side) → Reads a (side_text x) b → Reads b (relation_text o) c → Reads c (side_text y) d
+      → KnownSide a.text.cells x → KnownSide c.text.cells y → EndsSide y (ahead d) → level ≤ 16 → old.used < length old.nodes.now → new.nodes.now ≡ set old.nodes.now old.used (Compare x o y) → new.used ≡ old.used + 1
+      → ReadOne a level old new d
+  read_comparison x o y p q r k l e low h stores count = record {
+    is = compares x o y;
+    reads = reads_join p (reads_join q r);
+    known = (k, subst (λ (t : Text). KnownSide t.cells y) (q.text ∙ p.text) l);
     shallow = omega arith;
     ends = e;
-    nodes = stores ∙ stored_set before n (Compare a o b) h;
+    nodes = stores ∙ stored_set old.nodes.now old.used (Compare x o y) h;
     count = count;
   }
 
-  pub read_not : {inner after u used child : ℕ} {mid last : List Node} → Spans s at not_word inner → ReadOne s inner cells (level + 1) before n mid u after → next (drop after s) ≡ 41
-      → u < length before → child ≡ u - 1 → last ≡ set mid u (Not child) → used ≡ u + 1 → ReadOne s at cells level before n last used (after + 1)
-  read_not {inner} {after} {u} {used} {child} {mid} {last} p r e room is stores count = record {
+  pub read_not : {b c d : Cursor} {mid new : Store} {child : ℕ} → Reads a not_word b → ReadOne b (level + 1) old mid c → Reads c (41 ∷ []) d
+      → mid.used < length old.nodes.now → child ≡ mid.used - 1 → new.nodes.now ≡ set mid.nodes.now mid.used (Not child) → new.used ≡ mid.used + 1 → ReadOne a level old new d
+  read_not {mid = mid} {new = new} p r q room is stores count = record {
     is = negates r.is;
-    spans = spans_join p (spans_join r.spans (spans_byte s after 41 e (omega arith)));
-    known = r.known;
+    reads = reads_join p (reads_join r.reads q);
+    known = subst (λ (t : Text). Known t.cells r.is) p.text r.known;
     shallow = omega (arith, r.shallow);
     ends = tt;
     nodes =
-        let l = size_layout n r.is in
-        one_more before mid last n u (layout n r.is) (Not (n + size r.is - 1)) r.nodes (omega (arith, r.count)) room
-        (stores ∙ ap (λ k. set mid u (Not k)) (is ∙ ap (λ k. k - 1) r.count));
+        let l = size_layout old.used r.is in
+        one_more old.nodes.now mid.nodes.now new.nodes.now old.used mid.used (layout old.used r.is) (Not (old.used + size r.is - 1)) r.nodes (omega (arith, r.count)) room
+        (stores ∙ ap (λ k. set mid.nodes.now mid.used (Not k)) (is ∙ ap (λ k. k - 1) r.count));
     count = omega (arith, r.count);
   }
 
-  pub read_all : {inner used end : ℕ} {last : List Node} → Spans s at and_word inner → ReadList s inner cells (level + 1) All before n last used end → ReadOne s at cells level before n last used end
-  read_all p r = record { is = all r.are; spans = spans_join p r.spans; known = r.known; shallow = omega (arith, r.shallow); ends = tt; nodes = r.nodes; count = r.count }
+  pub read_all : {b c : Cursor} {new : Store} → Reads a and_word b → ReadList b (level + 1) All old new c → ReadOne a level old new c
+  read_all p r = record { is = all r.are; reads = reads_join p r.reads; known = subst (λ (t : Text). KnownAll t.cells r.are) p.text r.known; shallow = omega (arith, r.shallow); ends = tt; nodes = r.nodes; count = r.count }
 
-  pub read_any : {inner used end : ℕ} {last : List Node} → Spans s at or_word inner → ReadList s inner cells (level + 1) Any before n last used end → ReadOne s at cells level before n last used end
-  read_any p r = record { is = any r.are; spans = spans_join p r.spans; known = r.known; shallow = omega (arith, r.shallow); ends = tt; nodes = r.nodes; count = r.count }
+  pub read_any : {b c : Cursor} {new : Store} → Reads a or_word b → ReadList b (level + 1) Any old new c → ReadOne a level old new c
+  read_any p r = record { is = any r.are; reads = reads_join p r.reads; known = subst (λ (t : Text). KnownAll t.cells r.are) p.text r.known; shallow = omega (arith, r.shallow); ends = tt; nodes = r.nodes; count = r.count }
 
-  pub read_last : {join : Join} {after used : ℕ} {last : List Node} → ReadOne s at cells level before n last used after → next (drop after s) ≡ 41 → ReadList s at cells level join before n last used (after + 1)
-  read_last r e = record { are = one r.is; spans = spans_join r.spans (spans_byte s _ 41 e (omega arith)); known = r.known; shallow = r.shallow; nodes = r.nodes; count = r.count }
+  pub read_last : {join : Join} {b c : Cursor} {new : Store} → ReadOne a level old new b → Reads b (41 ∷ []) c → ReadList a level join old new c
+  read_last r q = record { are = one r.is; reads = reads_join r.reads q; known = r.known; shallow = r.shallow; nodes = r.nodes; count = r.count }
 
-  pub read_more : {join : Join} {after end u v used first rest : ℕ} {mid mid₂ last : List Node} → ReadOne s at cells level before n mid u after → next (drop after s) ≡ 44
-      → ReadList s (after + 1) cells level join mid u mid₂ v end → v < length before → first ≡ u - 1 → rest ≡ v - 1 → last ≡ set mid₂ v (joiner join first rest) → used ≡ v + 1 → ReadList s at cells level join before n last used end
-  read_more {join} {after} {end} {u} {v} {used} {first} {rest} {mid} {mid₂} {last} a e b room f g stores count =
-      let la = size_layout n a.is in
-      let lb = size_list (joiner join) u b.are in
-      let lb' = size_list (joiner join) (n + size a.is) b.are in
-      let front = layout n a.is in
-      let rear = list_layout (joiner join) (n + size a.is) b.are in
-      let both : mid₂ ≡ stored before n (front ++ rear) =
-      b.nodes ∙ ap (λ m. stored m u (list_layout (joiner join) u b.are)) a.nodes ∙ ap (λ k. stored (stored before n front) k (list_layout (joiner join) k b.are)) a.count
-      ∙ stored_more before n (n + size a.is) front rear (omega (arith, a.count, b.count)) (omega arith) in
+  pub read_more : {join : Join} {b c d : Cursor} {mid last new : Store} {first rest : ℕ} → ReadOne a level old mid b → Reads b (44 ∷ []) c → ReadList c level join mid last d
+      → last.used < length old.nodes.now → first ≡ mid.used - 1 → rest ≡ last.used - 1 → new.nodes.now ≡ set last.nodes.now last.used (joiner join first rest) → new.used ≡ last.used + 1 → ReadList a level join old new d
+  read_more {join} {d = d} {mid = mid} {last = last} {new = new} {rest = rest} x q y room f g stores count =
+      let n = old.used in
+      let before = old.nodes.now in
+      let la = size_layout n x.is in
+      let lb = size_list (joiner join) mid.used y.are in
+      let lb' = size_list (joiner join) (n + size x.is) y.are in
+      let front = layout n x.is in
+      let rear = list_layout (joiner join) (n + size x.is) y.are in
+      let both : last.nodes.now ≡ stored before n (front ++ rear) =
+      y.nodes ∙ ap (λ m. stored m mid.used (list_layout (joiner join) mid.used y.are)) x.nodes ∙ ap (λ k. stored (stored before n front) k (list_layout (joiner join) k y.are)) x.count
+      ∙ stored_more before n (n + size x.is) front rear (omega (arith, x.count, y.count)) (omega arith) in
       record {
-        are = more a.is b.are;
-        spans = subst (λ w. Spans s at w end) (sym (append_assoc (text a.is) (44 ∷ list_text b.are) (41 ∷ []))) (spans_join a.spans (spans_join (spans_byte s after 44 e (omega arith)) b.spans));
-        known = (a.known, b.known);
-        shallow = omega (arith, a.shallow, b.shallow);
-        nodes = one_more before mid₂ last n v (front ++ rear) (joiner join (n + size a.is - 1) (n + size a.is + list_size b.are - 1)) both
-            (omega (arith, length-append front rear, a.count, b.count)) room
-            (stores ∙ ap (λ k. set mid₂ v (joiner join k rest)) (f ∙ ap (λ k. k - 1) a.count) ∙ ap (λ k. set mid₂ v (joiner join (n + size a.is - 1) k)) (g ∙ ap (λ k. k - 1) (b.count ∙ ap (λ k. k + list_size b.are) a.count)))
+        are = more x.is y.are;
+        reads = subst (λ w. Reads a w d) (sym (append_assoc (text x.is) (44 ∷ list_text y.are) (41 ∷ []))) (reads_join x.reads (reads_join q y.reads));
+        known = (x.known, subst (λ (t : Text). KnownAll t.cells y.are) (q.text ∙ x.reads.text) y.known);
+        shallow = omega (arith, x.shallow, y.shallow);
+        nodes = one_more before last.nodes.now new.nodes.now n last.used (front ++ rear) (joiner join (n + size x.is - 1) (n + size x.is + list_size y.are - 1)) both
+            (omega (arith, length-append front rear, x.count, y.count)) room
+            (stores ∙ ap (λ k. set last.nodes.now last.used (joiner join k rest)) (f ∙ ap (λ k. k - 1) x.count)
+            ∙ ap (λ k. set last.nodes.now last.used (joiner join (n + size x.is - 1) k)) (g ∙ ap (λ k. k - 1) (y.count ∙ ap (λ k. k + list_size y.are) x.count)))
             ∙ ap (stored before n) (append_assoc front rear _);
-        count = omega (arith, a.count, b.count);
+        count = omega (arith, x.count, y.count);
       }
+
+-- the room that is left behind a word, and behind a condition
+pub room_on : {old : Store} {a b : Cursor} {w : List ℕ} → Room old a → Reads a w b → Room old b
+room_on r p = record { few = r.few; room = omega (arith, r.room, ap (λ (t : Text). length t.bytes.now) p.text, p.spans.upto) }
+
+pub room_read : {a b : Cursor} {level : ℕ} {old new : Store} → Room old a → ReadOne a level old new b → (1 ≤ new.used) × (new.used < length old.nodes.now)
+room_read r x = (omega (arith, x.count, size_some x.is), omega (arith, r.room, x.count, size_text x.is, x.reads.spans.upto, x.reads.spans.within))
+
+pub room_list : {a b : Cursor} {level : ℕ} {join : Join} {old new : Store} → Room old a → ReadList a level join old new b → (1 ≤ new.used) × (new.used < length old.nodes.now)
+room_list r x = (
+  omega (arith, x.count, list_some x.are),
+  omega (arith, r.room, x.count, list_text_size x.are, x.reads.spans.upto, x.reads.spans.within, length-append (list_text x.are) (41 ∷ [])),
+)
+
+pub room_after : {a b : Cursor} {level : ℕ} {old new : Store} → Room old a → ReadOne a level old new b → Kept old new → Room new b
+room_after r x k = record {
+  few = omega (arith, r.few, k.long);
+  room = omega (arith, r.room, k.long, x.count, size_text x.is, x.reads.spans.upto, ap (λ (t : Text). length t.bytes.now) x.reads.text);
+}
+
+pub kept_join : {a b c : Store} → a.used ≤ b.used → Kept a b → Kept b c → Kept a c
+kept_join {a} {b} {c} h p q = record { loan = p.loan ∙ q.loan; long = q.long ∙ p.long; kept = below_kept a.nodes.now b.nodes.now c.nodes.now a.used b.used h q.kept p.kept }
+
+-- where a condition can begin: behind an opening word, and behind a condition and a comma
+pub ready_open : {a b : Cursor} {level : ℕ} (w : List ℕ) → a.text.cells ≤ 1000000 → Plain w → count 40 w ≡ count 41 w → Ready a level → Reads a (w ++ (40 ∷ [])) b → level < 16 → Ready b (level + 1)
+ready_open {a} {b} {level} w many plain flat r p low = record {
+  clear = clear_on p (clear_open many w plain flat r.clear p.spans r.deep low);
+  deep = on (λ t. Deep t.bytes.now b.at (level + 1)) p (deep_open p.spans (opens w flat) r.deep);
+  shallow = omega arith;
+}
+  where
+    opens : (w : List ℕ) → count 40 w ≡ count 41 w → count 40 (w ++ (40 ∷ [])) ≡ count 41 (w ++ (40 ∷ [])) + 1
+    opens w e = omega (arith, e, count_append 40 w (40 ∷ []), count_append 41 w (40 ∷ []))
+
+pub ready_comma : {a b c : Cursor} {level : ℕ} {old new : Store} → a.text.cells ≤ 1000000 → Ready a level → ReadOne a level old new b → Reads b (44 ∷ []) c → Ready c level
+ready_comma {a} {b} {c} {level} many r x q = record {
+  clear = moved (λ t k. Clear t.cells t.bytes.now k) q
+      (clear_close (on (λ t. t.cells ≤ 1000000) x.reads many) 44 (inr refl) (clear_on x.reads (clear_condition many x.is r.clear r.deep x.reads.spans x.known x.shallow (subst (Ends x.is) (ahead_in x.reads) x.ends))) (reads_ahead q));
+  deep = let all = reads_join x.reads q in on (λ t. Deep t.bytes.now c.at level) all (deep_flat all.spans (balanced_append (text x.is) (44 ∷ []) (balanced x.is) refl) r.deep);
+  shallow = r.shallow;
+}
 
 plain_take : (i : ℕ) (w : List ℕ) → Plain w → Plain (take i w)
 plain_take zero w a = tt
@@ -92,48 +145,56 @@ plain_take (suc i) [] a = tt
 plain_take (suc i) (b ∷ w) a = (a.0, plain_take i w a.1)
 
 -- a word that does not open a bracket is the first fault
-pub not_opened : {o : List Bool} {cells : ℕ} {s : List ℕ} {at level : ℕ} (e : FormulaFault) (w z : List ℕ) (y : Condition) → cells ≤ 1000000 → Awaits o (take at s) → Clear cells s at → Deep s at level
-    → Plain w → count 40 w ≡ count 41 w → text y ≡ (w ++ (40 ∷ [])) ++ z
-    → ((c : Condition) (t : List ℕ) → next (text c ++ t) ≡ next (drop at s) → (x : List ℕ) × (text c ++ t ≡ (w ++ (40 ∷ [])) ++ x))
-    → NotOpened s at (w ++ (40 ∷ [])) level e → FirstOf cells s e
+pub not_opened : {o : List Bool} {a : Cursor} {level : ℕ} (e : FormulaFault) (w z : List ℕ) (y : Condition) → a.text.cells ≤ 1000000 → Awaits o (behind a) → Ready a level → Plain w → count 40 w ≡ count 41 w → text y ≡ (w ++ (40 ∷ [])) ++ z
+    → ((c : Condition) (t : List ℕ) → next (text c ++ t) ≡ ahead a → (x : List ℕ) × (text c ++ t ≡ (w ++ (40 ∷ [])) ++ x))
+    → NotOpened a.text.bytes.now a.at (w ++ (40 ∷ [])) level e → FirstIn a e
 unfolding too_deep
-not_opened {o} {cells} {s} {at} {level} e w z y many a c d plain flat spells kind r = ⊎_elim misspelled deep r
+not_opened {o} {a} {level} e w z y many awaits ready plain flat spells kind r = ⊎_elim misspelled deep r
   where
-    misspelled : Misspelled s at (w ++ (40 ∷ [])) e → FirstOf cells s e
+    s : List ℕ
+    s = a.text.bytes.now
+
+    misspelled : Misspelled s a.at (w ++ (40 ∷ [])) e → FirstIn a e
     misspelled m =
         let short : m.seen ≤ length w = omega (arith, m.more, length-append w (40 ∷ [])) in
         let cut : take m.seen (w ++ (40 ∷ [])) ≡ take m.seen w = take-append-le m.seen w (40 ∷ []) short in
-        subst (λ f. First cells s f e.offset) (sym m.flaw)
-        (first_grammar (word_outside (w ++ (40 ∷ [])) z y a spells kind m.more m.spells m.wrong)
-        (clear_bytes many (take m.seen w) (plain_take m.seen w plain) c (subst (λ v. Spans s at v e.offset) cut m.spells)))
+        subst (λ f. First a.text.cells s f e.offset) (sym m.flaw)
+        (first_grammar (word_outside (w ++ (40 ∷ [])) z y awaits spells kind m.more m.spells m.wrong)
+        (clear_bytes many (take m.seen w) (plain_take m.seen w plain) ready.clear (subst (λ v. Spans s a.at v e.offset) cut m.spells)))
 
-    deep : (e.flaw ≡ Level) × Spans s at (w ++ (40 ∷ [])) e.offset × (level ≡ 16) → FirstOf cells s e
+    deep : (e.flaw ≡ Level) × Spans s a.at (w ++ (40 ∷ [])) e.offset × (level ≡ 16) → FirstIn a e
     deep m =
-        subst (λ f. First cells s f e.offset) (sym m.0)
-        (first_level (too_deep w z y a spells flat m.1 (subst (Deep s at) m.2 d)) (clear_bytes many w plain c (spans_split w (40 ∷ []) m.1).0))
+        subst (λ f. First a.text.cells s f e.offset) (sym m.0)
+        (first_level (too_deep w z y awaits spells flat m.1 (subst (Deep s a.at) m.2 ready.deep)) (clear_bytes many w plain ready.clear (spans_split w (40 ∷ []) m.1).0))
 
 -- neither a comma nor a bracket after a condition
-pub not_followed : {b : Bool} {o : List Bool} {cells level : ℕ} {s : List ℕ} {at n used end : ℕ} {before after : List Node} → cells ≤ 1000000 → Awaits (b ∷ o) (take at s) → Clear cells s at → Deep s at level
-    → (r : ReadOne s at cells level before n after used end) → next (drop end s) ≢ 41 → (b ≡ true → next (drop end s) ≢ 44) → First cells s Grammar end
-not_followed {b} {o} {cells} {level} {s} {at} {n} {used} {end} many a c d r f g =
-    first_grammar (after_condition r.is a r.spans r.ends wrong) (clear_condition many r.is c d r.spans r.known r.shallow r.ends)
+pub not_followed : {b : Bool} {o : List Bool} {level : ℕ} {a c : Cursor} {old new : Store} {e : FormulaFault} → a.text.cells ≤ 1000000 → Awaits (b ∷ o) (behind a) → Ready a level
+    → (r : ReadOne a level old new c) → ahead c ≢ 41 → (b ≡ true → ahead c ≢ 44) → e ≡ outside c.at → FirstIn a e
+not_followed {b} {o} {level} {a} {c} many awaits ready r f g is =
+    told is (first_grammar (after_condition r.is awaits r.reads.spans ends wrong) (clear_condition many r.is ready.clear ready.deep r.reads.spans r.known r.shallow ends))
   where
-    wrong : (t : List ℕ) → Follows (b ∷ o) t → next t ≢ next (drop end s)
-    wrong t h e = go b t h g e
+    seen : ahead c ≡ next (drop c.at a.text.bytes.now)
+    seen = ahead_in r.reads
+
+    ends : Ends r.is (next (drop c.at a.text.bytes.now))
+    ends = subst (Ends r.is) seen r.ends
+
+    wrong : (t : List ℕ) → Follows (b ∷ o) t → next t ≢ next (drop c.at a.text.bytes.now)
+    wrong t h e = go b t h g (e ∙ sym seen)
       where
-        go : (x : Bool) (t : List ℕ) → Follows (x ∷ o) t → (x ≡ true → next (drop end s) ≢ 44) → next t ≡ next (drop end s) → ⊥
+        go : (x : Bool) (t : List ℕ) → Follows (x ∷ o) t → (x ≡ true → ahead c ≢ 44) → next t ≡ ahead c → ⊥
         go x t (closes q) g e = f (sym e)
         go true t (goes_on cs q) g e = g refl (sym e)
 
 -- what is awaited inside a bracket, after a comma
-pub inside_not : {o : List Bool} {s : List ℕ} {at inner : ℕ} → Awaits o (take at s) → Spans s at not_word inner → Awaits (false ∷ o) (take inner s)
-inside_not {o} {s} {at} a p = subst (Awaits (false ∷ o)) (sym (spans_take p)) (await_not (take at s) a)
+pub inside_not : {o : List Bool} {a b : Cursor} → Awaits o (behind a) → Reads a not_word b → Awaits (false ∷ o) (behind b)
+inside_not {o} {a} {b} w p = subst (Awaits (false ∷ o)) (sym (behind_in p)) (await_not (behind a) w)
 
-pub inside_all : {o : List Bool} {s : List ℕ} {at inner : ℕ} → Awaits o (take at s) → Spans s at and_word inner → (q : List Bool) × AwaitsList q (take inner s)
-inside_all {o} {s} {at} a p = (o, subst (AwaitsList o) (sym (spans_take p)) (await_all (take at s) a))
+pub inside_all : {o : List Bool} {a b : Cursor} → Awaits o (behind a) → Reads a and_word b → (q : List Bool) × AwaitsList q (behind b)
+inside_all {o} {a} {b} w p = (o, subst (AwaitsList o) (sym (behind_in p)) (await_all (behind a) w))
 
-pub inside_any : {o : List Bool} {s : List ℕ} {at inner : ℕ} → Awaits o (take at s) → Spans s at or_word inner → (q : List Bool) × AwaitsList q (take inner s)
-inside_any {o} {s} {at} a p = (o, subst (AwaitsList o) (sym (spans_take p)) (await_any (take at s) a))
+pub inside_any : {o : List Bool} {a b : Cursor} → Awaits o (behind a) → Reads a or_word b → (q : List Bool) × AwaitsList q (behind b)
+inside_any {o} {a} {b} w p = (o, subst (AwaitsList o) (sym (behind_in p)) (await_any (behind a) w))
 
-pub after_comma : {o : List Bool} {s : List ℕ} {at after : ℕ} (c : Condition) → AwaitsList o (take at s) → Spans s at (text c) after → next (drop after s) ≡ 44 → (q : List Bool) × AwaitsList q (take (after + 1) s)
-after_comma {o} {s} {at} {after} c a p e = (o, subst (AwaitsList o) (sym (spans_take (spans_join p (spans_byte s after 44 e (omega arith))))) (list_next (take at s) c a))
+pub after_comma : {o : List Bool} {a b c : Cursor} (x : Condition) → AwaitsList o (behind a) → Reads a (text x) b → Reads b (44 ∷ []) c → (q : List Bool) × AwaitsList q (behind c)
+after_comma {o} {a} x w p q = (o, subst (AwaitsList o) (sym (behind_in (reads_join p q))) (list_next (behind a) x w))

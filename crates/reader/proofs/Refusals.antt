@@ -1,10 +1,11 @@
 -- Faults of a side and of an opening word as they are returned. Assumes nothing.
 use Rattle.std.proofs.Common.{◌≡◌, ℕ, suc, ◌+◌, ◌-◌, ◌<◌, ◌≤◌, ◌⊎◌, List, [], ◌∷◌, ◌++◌, drop, ℤ, pos, negsuc, ◌-ℤ◌, IsErrAnd, Ok, Err, Result, sym, ap, ◌∙◌, subst, ⊎_elim, arith, w32, to_z, of_z, MatchResult}
+use Rattle.formulas.specs.declared.fault.Flaw.{Flaw}
 use Rattle.formulas.specs.declared.fault.FormulaFault.{FormulaFault}
 use Rattle.std.proofs.lemmas.Int.{ints}
 use Rattle.std.proofs.lemmas.Bool.{cases_eq}
 use Rattle.formulas.specs.Tree.{numeral, number_text, KnownNumber}
-use Rattle.formulas.specs.Faults.{next, Digit, NoDigitBefore, Outside}
+use Rattle.formulas.specs.Faults.{next, Digit, Outside, First}
 use Rattle.formulas.specs.Reading.{Spans, Clear}
 use Rattle.formulas.proofs.Numerals.{numeral_zero, numeral_next, numeral_first, numeral_prefix}
 use Rattle.formulas.proofs.Spans.{spans_byte, spans_join, spans_split}
@@ -21,11 +22,9 @@ out_as (Err y) P Q e b q = subst Q (sym b) q
 pub refuses : {cells : ℕ} {s : List ℕ} (k : ℕ) (e : FormulaFault) → e ≡ outside k → Outside s k → Clear cells s k → FirstOf cells s e
 refuses {cells} {s} k e is o c = subst (FirstOf cells s) (sym is) (first_grammar o c)
 
--- two bytes
-pub byte_two : (s : List ℕ) (at a b : ℕ) → next (drop at s) ≡ a → a < 256 → next (drop (at + 1) s) ≡ b → b < 256 → Spans s at (a ∷ b ∷ []) (at + 2)
-byte_two s at a b e f g h =
-    let two : at + 1 + 1 ≡ at + 2 = omega arith in
-    subst (Spans s at (a ∷ b ∷ [])) two (spans_join (spans_byte s at a e f) (spans_byte s (at + 1) b g h))
+-- a fault that is returned, told by its parts
+pub told : {cells : ℕ} {s : List ℕ} {f : Flaw} {k : ℕ} {e : FormulaFault} → e ≡ record { flaw = f; offset = k } → First cells s f k → FirstOf cells s e
+told {cells} {s} is h = subst (FirstOf cells s) (sym is) h
 
 -- digits that are within the limit, with no digit after them unless they are a 0
 pub zero_of : (n : ℕ) {b : ℕ} → n ≤ 1000000 → (n ≤ 1000000 → (Digit b → ⊥) ⊎ (n ≡ 0)) → Digit b → n ≡ 0
@@ -59,11 +58,6 @@ negative_text {s} {at} {end} n z h k e minus p =
     )
 
 -- after the sign of a shift
-pub sign_fresh : (s : List ℕ) (at b : ℕ) → next (drop at s) ≡ b → (b ≡ 43) ⊎ (b ≡ 45) → NoDigitBefore s (at + 1)
-sign_fresh s at b e is j same d =
-    let q : next (drop j s) ≡ b = ap (λ i. next (drop i s)) (omega arith) ∙ e in
-    ⊎_elim (λ x. omega (arith, d.0)) (λ x. omega (arith, d.0)) is
-
 pub sign_clear : {cells : ℕ} {s : List ℕ} {from at : ℕ} (n b : ℕ) → Spans s from (67 ∷ numeral n) at → next (drop at s) ≡ b → (b ≡ 43) ⊎ (b ≡ 45) → Clear cells s at → Clear cells s (at + 1)
 sign_clear n b p e is c = let l = last_digit n (spans_split (67 ∷ []) (numeral n) p).1 in clear_sign b l.0 c e is l.1 l.2
 
@@ -71,8 +65,3 @@ sign_clear n b p e is c = let l = last_digit n (spans_split (67 ∷ []) (numeral
 pub cell_clear : {cells : ℕ} {s : List ℕ} {at after : ℕ} (n : ℕ) → cells ≤ 1000000 → next (drop at s) ≡ 67 → Spans s (at + 1) (numeral n) after → n < cells → (Digit (next (drop after s)) → ⊥) ⊎ (n ≡ 0) → Clear cells s at → Clear cells s after
 cell_clear {cells} {s} {at} {after} n many e p known stop c =
     clear_digits p (omega arith) stop (clear_letter c e (λ m t x. omega (arith, numeral_prefix m n t (drop after s) stop (sym x ∙ p.said))))
-
--- what a call returns, handed on
-pub through : {T E : Type 0} (r : Result T E) (P P' : T → Type 0) (Q : E → Type 0) → ((x : T) → P x → P' x) → MatchResult r P Q → MatchResult r P' Q
-through (Ok x) P P' Q f h = f x h
-through (Err y) P P' Q f h = h

@@ -1,24 +1,30 @@
 -- A whole formula, from the condition read. Assumes nothing.
-use Rattle.std.proofs.Common.{◌≡◌, ℕ, ◌+◌, ◌-◌, ◌<◌, ◌≤◌, ◌≢◌, List, [], ◌++◌, length, take, drop, Ok, Err, sym, refl, ap, ◌∙◌, subst, inl, inr, ⊎_elim, append-nil, arith}
+use Rattle.std.proofs.Common.{◌≡◌, ℕ, ◌+◌, ◌-◌, ◌<◌, ◌≤◌, ◌⊎◌, ◌≢◌, List, [], ◌++◌, length, take, drop, Ok, Err, sym, refl, ap, ◌∙◌, subst, inl, inr, append-nil, arith}
 use Rattle.std.proofs.lemmas.List.{take_at, drop_at, drop_all, length-take-le}
-use Rattle.std.proofs.lemmas.Bool.{cases_lt}
 use Rattle.formulas.specs.declared.node.Node.{Node}
-use Rattle.formulas.specs.declared.fault.Flaw.TheVariants.{Grammar, Cells}
+use Rattle.formulas.specs.declared.fault.Flaw.TheVariants.{Cells}
 use Rattle.formulas.specs.declared.fault.FormulaFault.{FormulaFault}
 use Rattle.formulas.specs.Tree.{text, noted, cells_of}
-use Rattle.formulas.specs.Faults.{next, First}
+use Rattle.formulas.specs.Faults.{next}
 use Rattle.formulas.specs.Layout.{layout, stored}
-use Rattle.formulas.specs.Reading.{Clear, Follows, ends}
+use Rattle.formulas.specs.Reading.{Clear, Deep, Ends, Follows, ends, Awaits}
 use Rattle.formulas.proofs.Awaits.{await_start, after_condition}
 use Rattle.formulas.proofs.Levels.{deep_start}
 use Rattle.formulas.proofs.Clears.{clear_start, clear_condition}
 use Rattle.formulas.proofs.Firsts.{first_grammar, first_cells, first_unique}
 use Rattle.formulas.proofs.Layouts.{size_layout}
 use Rattle.formulas.proofs.Exact.{accepted_not_refused}
-use Rattle.reader.specs.declared.seen.Seen.{Seen}
+use Rattle.reader.specs.declared.named.Named.{Named}
 use Rattle.reader.specs.declared.formula.Formula.{Formula}
-use Rattle.reader.specs.Mentions.{Holds, mentioned}
-use Rattle.reader.specs.Read.{ReadOne, FirstOf}
+use Rattle.reader.specs.Mentions.{Holds, mentioned, named_from}
+use Rattle.reader.specs.declared.cursor.Text.{Text}
+use Rattle.reader.specs.declared.cursor.Cursor.{Cursor}
+use Rattle.reader.specs.declared.store.Store.{Store}
+use Rattle.reader.specs.Places.{ahead, behind, FirstIn}
+use Rattle.reader.specs.Stores.{Room}
+use Rattle.reader.specs.Read.{outside, Ready, ReadOne, FirstOf}
+use Rattle.reader.proofs.Refusals.{told}
+use Rattle.reader.proofs.Places.{ahead_in}
 use Rattle.reader.specs.Formula.{ReadFormula, Decided}
 use Rattle.reader.proofs.Cells.{mentioned_layout}
 
@@ -27,58 +33,75 @@ pub part_stored : {X : Type 0} (l new : List X) (n m : ℕ) → n ≤ length l �
 part_stored l new n m h e =
     ap (take (m - n)) (drop_at (take n l) (new ++ drop (n + length new) l) n (length-take-le n l h)) ∙ take_at new (drop (n + length new) l) (m - n) (omega arith)
 
-module _ {cells n used end : ℕ} {s : List ℕ} {before after : List Node} (many : cells ≤ 1000000) (r : ReadOne s 0 cells 1 before n after used end) where
-  clear : Clear cells s end
-  clear = clear_condition many r.is clear_start (deep_start s) r.spans r.known r.shallow r.ends
+-- the start of a text
+pub await_first : (a : Cursor) → a.at ≡ 0 → Awaits [] (behind a)
+await_first a first = subst (λ k. Awaits [] (take k a.text.bytes.now)) (sym first) await_start
+
+pub ready_first : (a : Cursor) → a.at ≡ 0 → Ready a 1
+ready_first a first = record {
+  clear = subst (Clear a.text.cells a.text.bytes.now) (sym first) clear_start;
+  deep = subst (λ k. Deep a.text.bytes.now k 1) (sym first) (deep_start a.text.bytes.now);
+  shallow = omega arith;
+}
+
+module _ {a end : Cursor} {old new : Store} (many : a.text.cells ≤ 1000000) (first : a.at ≡ 0) (r : ReadOne a 1 old new end) where
+  abbrev s : List ℕ
+  s = a.text.bytes.now
+
+  stop : Ends r.is (next (drop end.at s))
+  stop = subst (Ends r.is) (ahead_in r.reads) r.ends
+
+  clear : Clear a.text.cells s end.at
+  clear = let ready = ready_first a first in clear_condition many r.is ready.clear ready.deep r.reads.spans r.known r.shallow stop
 
   -- something stands behind it
-  pub junk_behind : next (drop end s) < 256 → First cells s Grammar end
-  junk_behind small = first_grammar (after_condition r.is await_start r.spans r.ends wrong) clear
+  pub junk_behind : {e : FormulaFault} → e ≡ outside end.at → ahead end < 256 → FirstIn a e
+  junk_behind is small = told is (first_grammar (after_condition r.is (await_first a first) r.reads.spans stop wrong) clear)
     where
-      wrong : (t : List ℕ) → Follows [] t → next t ≢ next (drop end s)
-      wrong t ends e = omega arith
+      wrong : (t : List ℕ) → Follows [] t → next t ≢ next (drop end.at s)
+      wrong t ends e = omega (arith, ahead_in r.reads)
 
-  module _ (all : length s ≤ end) where
+  module _ (all : length end.text.bytes.now ≤ end.at) where
+    past : length s ≤ end.at
+    past = subst (λ (t : Text). length t.bytes.now ≤ end.at) r.reads.text all
+
     said : s ≡ text r.is
-    said = r.spans.said ∙ ap (λ l. text r.is ++ l) (drop_all end s all) ∙ append-nil (text r.is)
+    said = ap (λ k. drop k s) (sym first) ∙ r.reads.spans.said ∙ ap (λ l. text r.is ++ l) (drop_all end.at s past) ∙ append-nil (text r.is)
 
-    end_is : end ≡ length s
-    end_is = omega (arith, r.spans.within)
+    end_is : end.at ≡ length s
+    end_is = omega (arith, past, r.reads.spans.within)
 
-    pub part : n + length s ≤ length before → take (used - n) (drop n after) ≡ layout n r.is
-    part room =
-        let l = size_layout n r.is in
-        ap (λ x. take (used - n) (drop n x)) r.nodes ∙ part_stored before (layout n r.is) n used (omega arith) (r.count ∙ ap (λ k. n + k) (sym l))
+    cells_are : Room old a → named_from new old.used ≡ cells_of r.is
+    cells_are room =
+        let l = size_layout old.used r.is in
+        ap (λ x. noted [] (mentioned (take (new.used - old.used) (drop old.used x)))) r.nodes
+        ∙ ap (λ x. noted [] (mentioned x)) (part_stored old.nodes.now (layout old.used r.is) old.used new.used (omega (arith, room.room, r.reads.spans.upto, r.reads.spans.within)) (r.count ∙ ap (λ k. old.used + k) (sym l)))
+        ∙ ap (noted []) (mentioned_layout old.used r.is)
 
-    module _ (seen : Seen) (h : Holds (noted [] (mentioned (layout n r.is))) seen) where
-      held : Holds (cells_of r.is) seen
-      held = subst (λ l. Holds (noted [] l) seen) (mentioned_layout n r.is) h
+    miscounted : {e : FormulaFault} → e ≡ record { flaw = Cells; offset = a.at } → (length (cells_of r.is) ≡ 0) ⊎ (4 < length (cells_of r.is)) → FirstIn a e
+    miscounted is w = told (is ∙ ap (λ k. record { flaw = Cells; offset = k }) first) (first_cells (record { first = refl; formula = r.is; said = said; wrong = w }) (subst (Clear a.text.cells s) end_is clear))
 
-      pub no_cell : seen.count ≡ 0 → First cells s Cells 0
-      no_cell z = first_cells (record { first = refl; formula = r.is; said = said; wrong = inl none }) (subst (Clear cells s) end_is clear)
-        where
-          none : length (cells_of r.is) ≡ 0
-          none = ⊎_elim (λ big. absurd (omega (arith, held.many big))) (λ few. omega (arith, (held.few few).0)) (cases_lt 4 (length (cells_of r.is)))
+    module _ (room : Room old a) where
+      pub many_cells : {e : FormulaFault} → e ≡ record { flaw = Cells; offset = a.at } → 4 < length (named_from new old.used) → FirstIn a e
+      many_cells is big = miscounted is (inr (omega (arith, big, ap length (cells_are room))))
 
-      pub many_cells : 4 < seen.count → First cells s Cells 0
-      many_cells big = first_cells (record { first = refl; formula = r.is; said = said; wrong = inr more }) (subst (Clear cells s) end_is clear)
-        where
-          more : 4 < length (cells_of r.is)
-          more = ⊎_elim (λ x. x) (λ few. absurd (omega (arith, (held.few few).0))) (cases_lt 4 (length (cells_of r.is)))
+      module _ (named : Named) (h : Holds (named_from new old.used) named) where
+        held : Holds (cells_of r.is) named
+        held = subst (λ l. Holds l named) (cells_are room) h
 
-      pub formula_read : seen.count ≢ 0 → seen.count ≤ 4 → ReadFormula cells s before n after used (record { root = used - 1; width = seen.count; cells = seen.cells })
-      formula_read some few =
-          let short : length (cells_of r.is) ≤ 4 = ⊎_elim (λ x. absurd (omega (arith, held.many x))) (λ x. x) (cases_lt 4 (length (cells_of r.is))) in
-          let k = held.few short in
-          record {
-            is = r.is;
-            accepted = record { said = said; known = r.known; shallow = omega (arith, r.shallow); some = ⊎_elim (λ x. x) (λ x. absurd (some (omega (arith, k.0)))) (cases_lt 0 (length (cells_of r.is))); few = short };
-            nodes = r.nodes;
-            count = r.count;
-            root = ap (λ m. m - 1) r.count;
-            width = k.0;
-            named = k.1;
-          }
+        pub no_cell : {e : FormulaFault} → e ≡ record { flaw = Cells; offset = a.at } → named.count ≡ 0 → FirstIn a e
+        no_cell is z = miscounted is (inl (sym held.count_is ∙ z))
+
+        pub formula_read : (root : ℕ) → root ≡ new.used - 1 → named.count ≢ 0 → ReadFormula a.text.cells s old.nodes.now old.used new.nodes.now new.used (record { root = root; width = named.count; cells = named.cells })
+        formula_read root is some = record {
+          is = r.is;
+          accepted = record { said = said; known = r.known; shallow = omega (arith, r.shallow); some = omega (arith, held.count_is); few = held.few };
+          nodes = r.nodes;
+          count = r.count;
+          root = is ∙ ap (λ m. m - 1) r.count;
+          width = held.count_is;
+          named = held.cells_are;
+        }
 
 -- a read or refused formula is decided
 pub decided_read : {cells n used : ℕ} {s : List ℕ} {before after : List Node} {f : Formula} → cells ≤ 1000000 → ReadFormula cells s before n after used f → Decided cells s (Ok f)

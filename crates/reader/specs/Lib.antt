@@ -1,3 +1,5 @@
+pub mod Places
+pub mod Stores
 pub mod Mentions
 pub mod Read
 pub mod Formula

@@ -1,9 +1,10 @@
 -- The cells that stored nodes name. Assumes nothing.
-use Rattle.std.specs.Prelude.{◌≡◌, ℕ, ◌-◌, ◌<◌, ◌≤◌, List, [], ◌∷◌, ◌++◌, length, replicate}
+use Rattle.std.specs.Prelude.{◌≡◌, ℕ, ◌-◌, ◌<◌, ◌≤◌, List, [], ◌∷◌, ◌++◌, length, take, drop, replicate, MatchOption, Option}
 use Rattle.formulas.specs.declared.node.Node.{Node}
 use Rattle.formulas.specs.declared.node.Node.TheVariants.{Free, Compare, Not, And, Or}
-use Rattle.formulas.specs.Tree.{side_cells}
-use Rattle.reader.specs.declared.seen.Seen.{Seen}
+use Rattle.formulas.specs.Tree.{noted, side_cells}
+use Rattle.reader.specs.declared.store.Store.{Store}
+use Rattle.reader.specs.declared.named.Named.{Named}
 
 abbrev pub node_cells : Node → List ℕ
 node_cells Free = []
@@ -17,7 +18,19 @@ abbrev pub mentioned : List Node → List ℕ
 mentioned [] = []
 mentioned (x ∷ xs) = node_cells x ++ mentioned xs
 
--- up to four cells with zeros after them, or a count of 5 for more
-pub record Holds (cs : List ℕ) (s : Seen) : Type 0 where
-  pub few : length cs ≤ 4 → (s.count ≡ length cs) × (s.cells ≡ cs ++ replicate (4 - length cs) 0)
-  pub many : 4 < length cs → s.count ≡ 5
+-- up to four cells, with zeros after them
+pub record Padded (cs cells : List ℕ) (count : ℕ) : Type 0 where
+  pub few : length cs ≤ 4
+  pub count_is : count ≡ length cs
+  pub cells_are : cells ≡ cs ++ replicate (4 - length cs) 0
+
+abbrev pub Holds : List ℕ → Named → Type 0
+Holds cs n = Padded cs n.cells n.count
+
+-- some cells as they are found: nothing where they are more than four
+abbrev pub Found : List ℕ → Option Named → Type 0
+Found cs r = MatchOption r (4 < length cs) (λ n. Holds cs n)
+
+-- the different cells that the taken nodes from a place on name
+abbrev pub named_from : Store → ℕ → List ℕ
+named_from s from = noted [] (mentioned (take (s.used - from) (drop from s.nodes.now)))

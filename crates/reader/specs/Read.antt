@@ -7,9 +7,12 @@ use Rattle.formulas.specs.declared.fault.FormulaFault.{FormulaFault}
 use Rattle.formulas.specs.Tree.{Condition, Conditions, text, list_text, levels, list_levels, Known, KnownAll}
 use Rattle.formulas.specs.Faults.{next, First}
 use Rattle.formulas.specs.Layout.{size, list_size, layout, list_layout, stored}
-use Rattle.formulas.specs.Reading.{Spans, Ends}
-use Rattle.reader.specs.declared.conditions.Join.{Join}
-use Rattle.reader.specs.declared.conditions.Join.TheVariants.{All, Any}
+use Rattle.formulas.specs.Reading.{Spans, Ends, Deep}
+use Rattle.reader.specs.Places.{ahead, Reads, ClearTo}
+use Rattle.reader.specs.declared.cursor.Cursor.{Cursor}
+use Rattle.reader.specs.declared.store.Store.{Store}
+use Rattle.reader.specs.declared.join.Join.{Join}
+use Rattle.reader.specs.declared.join.Join.TheVariants.{All, Any}
 
 -- a byte outside the grammar
 abbrev pub outside : ℕ → FormulaFault
@@ -31,25 +34,31 @@ NotOpened s at w level e = Misspelled s at w e ⊎ ((e.flaw ≡ Level) × Spans 
 abbrev pub FirstOf : ℕ → List ℕ → FormulaFault → Type 0
 FirstOf cells s e = First cells s e.flaw e.offset
 
--- a condition was read from one place up to another, and its nodes stored from n on
-pub record ReadOne (s : List ℕ) (at cells level : ℕ) (before : List Node) (n : ℕ) (after : List Node) (used end : ℕ) : Type 0 where
+-- a condition can begin at a place on a level: no fault comes before it
+pub record Ready (a : Cursor) (level : ℕ) : Type 0 where
+  pub clear : ClearTo a
+  pub deep : Deep a.text.bytes.now a.at level
+  pub shallow : level ≤ 16
+
+-- a condition was read from one place up to another, and its nodes stored from where the old store ended
+pub record ReadOne (a : Cursor) (level : ℕ) (old new : Store) (b : Cursor) : Type 0 where
   pub is : Condition
-  pub spans : Spans s at (text is) end
-  pub known : Known cells is
+  pub reads : Reads a (text is) b
+  pub known : Known a.text.cells is
   pub shallow : levels is + level ≤ 17
-  pub ends : Ends is (next (drop end s))
-  pub nodes : after ≡ stored before n (layout n is)
-  pub count : used ≡ n + size is
+  pub ends : Ends is (ahead b)
+  pub nodes : new.nodes.now ≡ stored old.nodes.now old.used (layout old.used is)
+  pub count : new.used ≡ old.used + size is
 
 abbrev pub joiner : Join → ℕ → ℕ → Node
 joiner All = And
 joiner Any = Or
 
 -- the same of a list and the bracket that closes it
-pub record ReadList (s : List ℕ) (at cells level : ℕ) (join : Join) (before : List Node) (n : ℕ) (after : List Node) (used end : ℕ) : Type 0 where
+pub record ReadList (a : Cursor) (level : ℕ) (join : Join) (old new : Store) (b : Cursor) : Type 0 where
   pub are : Conditions
-  pub spans : Spans s at (list_text are ++ (41 ∷ [])) end
-  pub known : KnownAll cells are
+  pub reads : Reads a (list_text are ++ (41 ∷ [])) b
+  pub known : KnownAll a.text.cells are
   pub shallow : list_levels are + level ≤ 17
-  pub nodes : after ≡ stored before n (list_layout (joiner join) n are)
-  pub count : used ≡ n + list_size are
+  pub nodes : new.nodes.now ≡ stored old.nodes.now old.used (list_layout (joiner join) old.used are)
+  pub count : new.used ≡ old.used + list_size are

@@ -1,83 +1,107 @@
-//! Bytes and words of a text.
-ghost use Rattle.std.specs.Prelude.{◌≡◌, ℕ, ◌<◌, ◌≤◌, true, ◌⊎◌, length, drop, Decides, MatchResult, slice_index};
+//! Bytes and words at a place of a text.
+ghost use Rattle.std.specs.Prelude.{◌≡◌, ℕ, ◌+◌, ◌<◌, ◌≤◌, ◌≢◌, ◌⊎◌, ◌↔◌, IsTrue, [], ◌∷◌, length, MatchOption, MatchResult};
 ghost use Rattle.formulas.specs.Tree.{numeral};
-ghost use Rattle.formulas.specs.Faults.{next, Digit};
-ghost use Rattle.formulas.specs.Reading.{Spans};
+ghost use Rattle.formulas.specs.Faults.{Digit};
+ghost use Rattle.reader.specs.Places.{ahead, Reads};
 ghost use Rattle.reader.specs.Read.{outside, Misspelled};
 
+use crate::cursor::Cursor;
 use formulas::fault::{Flaw, FormulaFault};
 
-/// A byte that no formula can go on with, or the end of the text where none can end.
-pub fn outside_at(offset: usize) -> FormulaFault
-    ensures { result ≡ outside offset }
-{
-    FormulaFault {
-        flaw: Flaw::Grammar,
-        offset,
-    }
-}
+/// The largest number that digits may stand for.
+pub const LIMIT: u32 = 1000000;
 
-/// Whether the byte `b` stands at `at`.
-pub fn sees(bytes: &[u8], at: usize, b: u8) -> bool
-    ensures test { Decides result (next (drop at bytes.now) ≡ b) }
-    ensures inside { result ≡ true → at < length bytes.now }
-{
-    if at >= bytes.len() {
-        return false;
-    }
-    bytes[at] == b
-}
-
-/// Whether a digit stands at `at`.
-pub fn digit_at(bytes: &[u8], at: usize) -> bool
-    ensures test { Decides result (Digit (next (drop at bytes.now))) }
-    ensures inside { result ≡ true → at < length bytes.now }
-    ensures low { result ≡ true → 48 ≤ slice_index bytes.now at }
-    ensures high { result ≡ true → slice_index bytes.now at ≤ 57 }
-{
-    if at >= bytes.len() {
-        return false;
-    }
-    if bytes[at] < b'0' {
-        return false;
-    }
-    bytes[at] <= b'9'
-}
-
-/// The end of `word`, which stands at `at`; otherwise the first byte that differs from it is the fault.
-pub fn word(bytes: &[u8], at: usize, word: &[u8]) -> Result<usize, FormulaFault>
-    requires within { at ≤ length bytes.now }
-    requires short { length word.now ≤ 8 }
-    ensures { MatchResult result (λ end. Spans bytes.now at word.now end) (λ e. Misspelled bytes.now at word.now e) }
-{
-    let mut end = at;
-    for b in word {
-        if !sees(bytes, end, *b) {
-            return Err(outside_at(end));
+impl<'a> Cursor<'a> {
+    /// A flaw that is found here.
+    pub fn fault(self, flaw: Flaw) -> FormulaFault
+        ensures { result ≡ record { flaw = flaw; offset = self.entry.at } }
+    {
+        FormulaFault {
+            flaw,
+            offset: self.at,
         }
-        end += 1;
     }
-    Ok(end)
-}
 
-/// The number that digits at `at` stand for, and their end. Past 1,000,000 no further digit is read.
-pub fn digits(bytes: &[u8], at: usize) -> Result<(u32, usize), FormulaFault>
-    requires within { at ≤ length bytes.now }
-    ensures { MatchResult result
-        (λ v. Spans bytes.now at (numeral v.0) v.1 × (v.0 ≤ 1000000 → (Digit (next (drop v.1 bytes.now)) → ⊥) ⊎ (v.0 ≡ 0)))
-        (λ e. (e ≡ outside at) × (Digit (next (drop at bytes.now)) → ⊥)) }
-{
-    if !digit_at(bytes, at) {
-        return Err(outside_at(at));
+    /// The byte that stands here; nothing where the text ends.
+    pub fn byte(self) -> Option<u8>
+        ensures { MatchOption result (length self.entry.text.bytes.now ≤ self.entry.at) (λ b. (ahead self.entry ≡ b) × (b < 256)) }
+    {
+        self.text.bytes.get(self.at).copied()
     }
-    let mut value = u32::from(bytes[at] - b'0');
-    let mut end = at + 1;
-    if value == 0 {
-        return Ok((0, end));
+
+    /// Whether the byte `b` stands here.
+    pub fn sees(self, b: u8) -> bool
+        ensures { IsTrue result ↔ (ahead self.entry ≡ b) }
+    {
+        self.byte() == Some(b)
     }
-    while value <= 1000000 && digit_at(bytes, end) {
-        value = value * 10 + u32::from(bytes[end] - b'0');
-        end += 1;
+
+    /// The place after the byte `b`, if it stands here.
+    pub fn past(self, b: u8) -> Option<Cursor<'a>>
+        ensures { MatchOption result (ahead self.entry ≢ b) (λ end. Reads self.entry (b ∷ []) end) }
+    {
+        if !self.sees(b) {
+            return None;
+        }
+        Some(Cursor {
+            text: self.text,
+            at: self.at + 1,
+        })
     }
-    Ok((value, end))
+
+    /// The place after the byte `b`, which has to stand here.
+    pub fn expect(self, b: u8) -> Result<Cursor<'a>, FormulaFault>
+        ensures { MatchResult result (λ end. Reads self.entry (b ∷ []) end) (λ e. (e ≡ outside self.entry.at) × (ahead self.entry ≢ b)) }
+    {
+        self.past(b).ok_or(self.fault(Flaw::Grammar))
+    }
+
+    /// The place after a word, which has to stand here; otherwise the first byte that differs from it is the fault.
+    pub fn word(self, word: &[u8]) -> Result<Cursor<'a>, FormulaFault>
+        ensures { MatchResult result (λ end. Reads self.entry word.now end) (λ e. Misspelled self.entry.text.bytes.now self.entry.at word.now e) }
+    {
+        let mut end = self;
+        for b in word {
+            end = end.expect(*b)?;
+        }
+        Ok(end)
+    }
+
+    /// The digit that stands here, and the place after it.
+    pub fn digit(self) -> Option<(u8, Cursor<'a>)>
+        ensures { MatchOption result (Digit (ahead self.entry) → ⊥) (λ d. (d.0 ≤ 9) × Reads self.entry ((48 + d.0) ∷ []) d.1) }
+    {
+        let b = self.byte()?;
+        if !b.is_ascii_digit() {
+            return None;
+        }
+        let end = Cursor {
+            text: self.text,
+            at: self.at + 1,
+        };
+        Some((b - b'0', end))
+    }
+
+    /// The number that digits here stand for, and the place after them. Past the limit no further digit is read.
+    pub fn digits(self) -> Result<(u32, Cursor<'a>), FormulaFault>
+        ensures { MatchResult result
+            (λ v. Reads self.entry (numeral v.0) v.1 × (v.0 ≤ 1000000 → (Digit (ahead v.1) → ⊥) ⊎ (v.0 ≡ 0)))
+            (λ e. (e ≡ outside self.entry.at) × (Digit (ahead self.entry) → ⊥)) }
+    {
+        let Some((first, mut end)) = self.digit() else {
+            return Err(self.fault(Flaw::Grammar));
+        };
+        let mut value = u32::from(first);
+        if value == 0 {
+            return Ok((0, end));
+        }
+        while value <= LIMIT {
+            let Some((digit, next)) = end.digit() else {
+                return Ok((value, end));
+            };
+            value = value * 10 + u32::from(digit);
+            end = next;
+        }
+        Ok((value, end))
+    }
 }

@@ -1,23 +1,25 @@
 //! Whole formulas.
-ghost use Rattle.std.specs.Prelude.{◌≡◌, ℕ, ◌+◌, ◌-◌, ◌<◌, ◌≤◌, ◌++◌, length, take, replicate, MatchResult};
+ghost use Rattle.std.specs.Prelude.{◌≡◌, ℕ, ◌+◌, ◌-◌, ◌≤◌, ◌++◌, length, take, replicate, MatchResult};
 ghost use Rattle.formulas.specs.declared.node.Node.TheVariants.{Free};
+ghost use Rattle.reader.specs.Places.{FirstIn};
+ghost use Rattle.reader.specs.Stores.{Kept, Room};
+ghost use Rattle.reader.specs.Mentions.{Found, named_from};
 ghost use Rattle.reader.specs.Read.{FirstOf};
 ghost use Rattle.reader.specs.Formula.{ReadFormula, Decided};
 
-use crate::bytes::outside_at;
-use crate::conditions::condition;
+use crate::cursor::{Cursor, Text};
 use crate::mentions::cells_of;
+use crate::named::Named;
+use crate::store::Store;
 use formulas::fault::{Flaw, FormulaFault};
 use formulas::node::Node;
 
 /// The nodes that suffice for the formulas of any sheet file.
 pub const NODES: usize = 32768;
 
-/// The most different cells that a formula names.
-const MOST: u8 = 4;
-
 /// A formula in the store: its root, and its cells in the order of their first appearance, with zeros after them.
-#[derive(Clone, Copy)]
+// The library works in lent memory, so the root is a node's number, and the cells are an array with a count.
+#[derive(Clone, Copy, Debug, Default, PartialEq, Eq)]
 pub struct Formula {
     pub root: u16,
     pub width: u8,
@@ -25,6 +27,7 @@ pub struct Formula {
 }
 
 /// Reads a formula on the first `cells` cells, and stores its nodes from `used` on. Refused, it leaves the nodes below `used` as they were and the others free.
+// The host lends the nodes, so the caller keeps them with a count of those taken.
 pub fn read(
     bytes: &[u8],
     cells: u8,
@@ -39,12 +42,18 @@ pub fn read(
         × (nodes.new ≡ take used.old nodes.old ++ replicate (length nodes.old - used.old) Free)) }
     ensures exact { Decided cells bytes.now result }
 {
-    let from = *used;
-    match whole(bytes, cells, nodes, used) {
-        Ok(formula) => Ok(formula),
+    let start = Cursor {
+        text: Text { bytes, cells },
+        at: 0,
+    };
+    let mut store = Store { nodes, used: *used };
+    match store.whole(start) {
+        Ok(formula) => {
+            *used = store.used;
+            Ok(formula)
+        }
         Err(fault) => {
-            clear(nodes, from);
-            *used = from;
+            clear(store.nodes, *used);
             Err(fault)
         }
     }
@@ -58,42 +67,40 @@ fn clear(nodes: &mut [Node], from: usize)
     nodes[from..].fill(Node::Free);
 }
 
-/// The same, but for the nodes that a refusal leaves.
-fn whole(
-    bytes: &[u8],
-    cells: u8,
-    nodes: &mut [Node],
-    used: &mut usize,
-) -> Result<Formula, FormulaFault>
-    requires few { length nodes.old ≤ 32768 }
-    requires room { used.old + length bytes.now ≤ length nodes.old }
-    ensures read { MatchResult result
-        (λ f. ReadFormula cells bytes.now nodes.old used.old nodes.new used.new f)
-        (λ e. FirstOf cells bytes.now e) }
-    ensures kept { take used.old nodes.new ≡ take used.old nodes.old }
-{
-    let from = *used;
-    let end = condition(bytes, 0, 1, cells, nodes, used)?;
-    if end < bytes.len() {
-        return Err(outside_at(end));
+impl<'a> Store<'a> {
+    /// The different cells that the nodes from a place on name; nothing where they are more than four.
+    fn named(&self, from: usize) -> Option<Named>
+        requires order { from ≤ self.now.used }
+        requires within { self.now.used ≤ length self.now.nodes.now }
+        ensures { Found (named_from self.now from) result }
+    {
+        cells_of(&self.nodes[from..self.used])
     }
-    let seen = cells_of(&nodes[from..*used]);
-    if seen.count == 0 {
-        return Err(FormulaFault {
-            flaw: Flaw::Cells,
-            offset: 0,
-        });
+
+    /// Reads a formula at the start of its text and stores its nodes; refused, it may leave some of them.
+    fn whole(&mut self, start: Cursor<'_>) -> Result<Formula, FormulaFault>
+        requires first { start.at ≡ 0 }
+        requires room { Room self.old start }
+        ensures read { MatchResult result
+            (λ f. ReadFormula start.entry.text.cells start.entry.text.bytes.now self.old.nodes.now self.old.used self.new.nodes.now self.new.used f)
+            (λ e. FirstIn start.entry e) }
+        ensures kept { Kept self.old self.new }
+    {
+        let from = self.used;
+        let end = self.condition(start, 1)?;
+        if end.byte().is_some() {
+            return Err(end.fault(Flaw::Grammar));
+        }
+        match self.named(from) {
+            Some(named) if named.count > 0 => {
+                let cells = named.cells;
+                Ok(Formula {
+                    root: self.last(),
+                    width: named.count,
+                    cells,
+                })
+            }
+            _ => Err(start.fault(Flaw::Cells)),
+        }
     }
-    if seen.count > MOST {
-        return Err(FormulaFault {
-            flaw: Flaw::Cells,
-            offset: 0,
-        });
-    }
-    let named = seen.cells;
-    Ok(Formula {
-        root: (*used - 1) as u16,
-        width: seen.count,
-        cells: named,
-    })
 }

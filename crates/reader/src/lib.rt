@@ -3,7 +3,10 @@
 
 mod bytes;
 mod conditions;
+mod cursor;
 pub mod formula;
+mod join;
 mod mentions;
-mod seen;
+mod named;
 mod sides;
+mod store;

@@ -1,72 +1,65 @@
 //! Collects the different cells of stored nodes.
-ghost use Rattle.std.specs.Prelude.{◌≡◌, ℕ, cond, List, [], ◌∷◌, ◌++◌};
-ghost use Rattle.formulas.specs.Tree.{among, noted, side_cells};
-ghost use Rattle.reader.specs.Mentions.{Holds, mentioned, node_cells};
+ghost use Rattle.std.specs.Prelude.{◌≡◌, ℕ, List, [], ◌∷◌};
+ghost use Rattle.formulas.specs.Tree.{noted, side_cells};
+ghost use Rattle.reader.specs.Mentions.{Holds, Found, mentioned, node_cells};
 
-use crate::seen::Seen;
+use crate::named::Named;
 use formulas::node::{Node, Side};
 
-/// Whether a cell is among some.
-fn is_among(cells: &[u8], cell: u8) -> bool
-    ensures { result ≡ among cell cells.now }
-{
-    for other in cells {
-        if *other == cell {
-            return true;
+/// The most different cells that a formula names.
+const MOST: usize = 4;
+
+impl Named {
+    /// With one more cell, if it is new; nothing where that is one too many.
+    fn with(self, cell: u8) -> Option<Named>
+        ensures { (cs : List ℕ) → Holds cs self → Found (noted cs (cell ∷ [])) result }
+    {
+        let kept = usize::from(self.count);
+        if self.cells[..kept].contains(&cell) {
+            return Some(self);
+        }
+        if kept == MOST {
+            return None;
+        }
+        let mut cells = self.cells;
+        cells[kept] = cell;
+        Some(Named {
+            cells,
+            count: self.count + 1,
+        })
+    }
+
+    /// With the cell of a side.
+    fn with_side(self, side: Side) -> Option<Named>
+        ensures { (cs : List ℕ) → Holds cs self → Found (noted cs (side_cells side)) result }
+    {
+        match side {
+            Side::Number(_) => Some(self),
+            Side::Cell(cell, _) => self.with(cell),
         }
     }
-    false
-}
 
-/// One more cell, if it is new.
-fn note(seen: Seen, cell: u8) -> Seen
-    ensures { (cs : List ℕ) → Holds cs seen → Holds (noted cs (cell ∷ [])) result }
-{
-    let kept = usize::from(seen.count.min(4));
-    if is_among(&seen.cells[0..kept], cell) {
-        return seen;
-    }
-    let mut cells = seen.cells;
-    if kept == 4 {
-        return Seen { cells, count: 5 };
-    }
-    cells[kept] = cell;
-    Seen {
-        cells,
-        count: seen.count + 1,
+    /// With the cells of a node.
+    fn with_node(self, node: Node) -> Option<Named>
+        ensures { (cs : List ℕ) → Holds cs self → Found (noted cs (node_cells node)) result }
+    {
+        match node {
+            Node::Compare(left, _, right) => self.with_side(left)?.with_side(right),
+            Node::Free | Node::Not(_) | Node::And(_, _) | Node::Or(_, _) => Some(self),
+        }
     }
 }
 
-/// One more side.
-fn note_side(seen: Seen, side: Side) -> Seen
-    ensures { (cs : List ℕ) → Holds cs seen → Holds (noted cs (side_cells side)) result }
+/// The different cells that some nodes name, in the order of the nodes; nothing where they are more than four.
+pub fn cells_of(nodes: &[Node]) -> Option<Named>
+    ensures { Found (noted [] (mentioned nodes.now)) result }
 {
-    match side {
-        Side::Number(_) => seen,
-        Side::Cell(cell, _) => note(seen, cell),
-    }
-}
-
-/// One more node.
-fn note_node(seen: Seen, node: Node) -> Seen
-    ensures { (cs : List ℕ) → Holds cs seen → Holds (noted cs (node_cells node)) result }
-{
-    match node {
-        Node::Compare(left, _, right) => note_side(note_side(seen, left), right),
-        Node::Free | Node::Not(_) | Node::And(_, _) | Node::Or(_, _) => seen,
-    }
-}
-
-/// The different cells that some nodes name, in the order of the nodes.
-pub fn cells_of(nodes: &[Node]) -> Seen
-    ensures { Holds (noted [] (mentioned nodes.now)) result }
-{
-    let mut seen = Seen {
+    let mut named = Named {
         cells: [0; 4],
         count: 0,
     };
     for node in nodes {
-        seen = note_node(seen, *node);
+        named = named.with_node(*node)?;
     }
-    seen
+    Some(named)
 }

@@ -1,154 +1,150 @@
 //! The sides and the relation of a comparison.
-ghost use Rattle.std.specs.Prelude.{◌≡◌, ℕ, ◌+◌, ◌<◌, ◌≤◌, ◌∷◌, length, drop, MatchResult};
+ghost use Rattle.std.specs.Prelude.{◌≡◌, ℕ, ◌≤◌, [], ◌∷◌, MatchResult};
 ghost use Rattle.formulas.specs.Tree.{numeral, number_text, shift_text, side_text, relation_text, KnownNumber, KnownShift, KnownSide};
-ghost use Rattle.formulas.specs.Faults.{next, Digit, NoDigitBefore};
-ghost use Rattle.formulas.specs.Reading.{Spans, Clear, EndsShift, EndsSide, EndsRelation, AwaitsSide, AwaitsDigits};
-ghost use Rattle.reader.specs.Read.{outside, FirstOf};
+ghost use Rattle.formulas.specs.Faults.{Digit, NoDigitBefore};
+ghost use Rattle.formulas.specs.Reading.{EndsShift, EndsSide, EndsRelation, AwaitsSide, AwaitsDigits};
+ghost use Rattle.reader.specs.declared.cursor.Cursor.{Cursor};
+ghost use Rattle.reader.specs.Places.{ahead, Reads, ClearTo, FirstIn, AwaitsShift};
+ghost use Rattle.reader.specs.Read.{outside};
 
-use crate::bytes::{digit_at, digits, outside_at, sees};
+use crate::bytes::LIMIT;
+use crate::cursor::Cursor;
 use formulas::fault::{Flaw, FormulaFault};
 use formulas::node::{Relation, Shift, Side};
 
-/// The largest number that digits may stand for.
-const LIMIT: u32 = 1000000;
-
-/// A number without a minus.
-fn number(bytes: &[u8], at: usize) -> Result<(u32, usize), FormulaFault>
-    requires within { at ≤ length bytes.now }
-    requires awaits { AwaitsDigits 0 bytes.now at }
-    requires fresh { NoDigitBefore bytes.now at }
-    ensures { MatchResult result
-        (λ v. Spans bytes.now at (numeral v.0) v.1 × (v.0 ≤ 1000000) × (Digit (next (drop v.1 bytes.now)) → ⊥))
-        (λ e. (cells : ℕ) → Clear cells bytes.now at → FirstOf cells bytes.now e) }
-{
-    let (value, end) = digits(bytes, at)?;
-    if value > LIMIT {
-        return Err(FormulaFault {
-            flaw: Flaw::Range,
-            offset: at,
-        });
-    }
-    if digit_at(bytes, end) {
-        return Err(outside_at(end));
-    }
-    Ok((value, end))
-}
-
-/// A number with a minus, which stands at `at`.
-fn negative(bytes: &[u8], at: usize) -> Result<(i32, usize), FormulaFault>
-    requires awaits { AwaitsSide bytes.now at }
-    requires minus { next (drop at bytes.now) ≡ 45 }
-    ensures { MatchResult result
-        (λ v. Spans bytes.now at (number_text v.0) v.1 × KnownNumber v.0 × (Digit (next (drop v.1 bytes.now)) → ⊥))
-        (λ e. (cells : ℕ) → Clear cells bytes.now at → FirstOf cells bytes.now e) }
-{
-    if sees(bytes, at + 1, b'0') {
-        return Err(outside_at(at + 1));
-    }
-    let (value, end) = digits(bytes, at + 1)?;
-    if value > LIMIT {
-        return Err(FormulaFault {
-            flaw: Flaw::Range,
-            offset: at,
-        });
-    }
-    Ok((-(value as i32), end))
-}
-
-/// What is added to the cell whose number ends at `at`, or taken from it.
-fn shift(bytes: &[u8], from: usize, cell: u8, at: usize) -> Result<(Shift, usize), FormulaFault>
-    requires awaits { AwaitsSide bytes.now from }
-    requires named { Spans bytes.now from (67 ∷ numeral cell) at }
-    requires ended { Digit (next (drop at bytes.now)) → ⊥ }
-    ensures { MatchResult result
-        (λ v. Spans bytes.now at (shift_text v.0) v.1 × KnownShift v.0 × EndsShift v.0 (next (drop v.1 bytes.now)))
-        (λ e. (cells : ℕ) → Clear cells bytes.now at → FirstOf cells bytes.now e) }
-{
-    if sees(bytes, at, b'+') {
-        let (value, end) = number(bytes, at + 1)?;
-        return Ok((Shift::Plus(value), end));
-    }
-    if sees(bytes, at, b'-') {
-        let (value, end) = number(bytes, at + 1)?;
-        return Ok((Shift::Minus(value), end));
-    }
-    Ok((Shift::Bare, at))
-}
-
-/// A cell, whose C stands at `at`, and its shift.
-fn cell(bytes: &[u8], at: usize, cells: u8) -> Result<(Side, usize), FormulaFault>
-    requires awaits { AwaitsSide bytes.now at }
-    requires letter { next (drop at bytes.now) ≡ 67 }
-    requires clear { Clear cells bytes.now at }
-    ensures { MatchResult result
-        (λ v. Spans bytes.now at (side_text v.0) v.1 × KnownSide cells v.0 × EndsSide v.0 (next (drop v.1 bytes.now)))
-        (λ e. FirstOf cells bytes.now e) }
-{
-    let (cell, after) = digits(bytes, at + 1)?;
-    if cell >= u32::from(cells) {
-        return Err(FormulaFault {
-            flaw: Flaw::Range,
-            offset: at,
-        });
-    }
-    if digit_at(bytes, after) {
-        return Err(outside_at(after));
-    }
-    let (shift, end) = shift(bytes, at, cell as u8, after)?;
-    Ok((Side::Cell(cell as u8, shift), end))
-}
-
-/// One side of a comparison.
-pub fn side(bytes: &[u8], at: usize, cells: u8) -> Result<(Side, usize), FormulaFault>
-    requires within { at ≤ length bytes.now }
-    requires awaits { AwaitsSide bytes.now at }
-    requires clear { Clear cells bytes.now at }
-    ensures { MatchResult result
-        (λ v. Spans bytes.now at (side_text v.0) v.1 × KnownSide cells v.0 × EndsSide v.0 (next (drop v.1 bytes.now)))
-        (λ e. FirstOf cells bytes.now e) }
-{
-    if sees(bytes, at, b'C') {
-        return cell(bytes, at, cells);
-    }
-    if sees(bytes, at, b'-') {
-        let (value, end) = negative(bytes, at)?;
-        return Ok((Side::Number(value), end));
-    }
-    let (value, end) = number(bytes, at)?;
-    Ok((Side::Number(value as i32), end))
-}
-
-/// The relation of a comparison.
-pub fn relation(bytes: &[u8], at: usize) -> Result<(Relation, usize), FormulaFault>
-    ensures { MatchResult result
-        (λ v. Spans bytes.now at (relation_text v.0) v.1 × EndsRelation v.0 (next (drop v.1 bytes.now)))
-        (λ e. (e ≡ outside at) × (60 ≤ next (drop at bytes.now) → next (drop at bytes.now) ≤ 62 → ⊥)) }
-{
-    if sees(bytes, at, b'=') {
-        return Ok((Relation::Equal, at + 1));
-    }
-    if sees(bytes, at, b'<') {
-        return Ok(less(bytes, at));
-    }
-    if sees(bytes, at, b'>') {
-        if sees(bytes, at + 1, b'=') {
-            return Ok((Relation::GreaterEqual, at + 2));
+impl<'a> Cursor<'a> {
+    /// A number without a minus.
+    fn number(self) -> Result<(u32, Cursor<'a>), FormulaFault>
+        requires awaits { AwaitsDigits 0 self.text.bytes.now self.at }
+        requires fresh { NoDigitBefore self.text.bytes.now self.at }
+        ensures { MatchResult result
+            (λ v. Reads self.entry (numeral v.0) v.1 × (v.0 ≤ 1000000) × (Digit (ahead v.1) → ⊥))
+            (λ e. ClearTo self.entry → FirstIn self.entry e) }
+    {
+        let (value, end) = self.digits()?;
+        if value > LIMIT {
+            return Err(self.fault(Flaw::Range));
         }
-        return Ok((Relation::Greater, at + 1));
+        if end.digit().is_some() {
+            return Err(end.fault(Flaw::Grammar));
+        }
+        Ok((value, end))
     }
-    Err(outside_at(at))
-}
 
-/// A relation that begins with `<`, which stands at `at`.
-fn less(bytes: &[u8], at: usize) -> (Relation, usize)
-    requires { next (drop at bytes.now) ≡ 60 }
-    ensures { Spans bytes.now at (relation_text result.0) result.1 × EndsRelation result.0 (next (drop result.1 bytes.now)) }
-{
-    if sees(bytes, at + 1, b'=') {
-        return (Relation::LessEqual, at + 2);
+    /// A number with a minus, which stands here and before `digits`.
+    fn negative(self, digits: Cursor<'a>) -> Result<(i32, Cursor<'a>), FormulaFault>
+        requires awaits { AwaitsSide self.text.bytes.now self.at }
+        requires minus { Reads self (45 ∷ []) digits }
+        ensures { MatchResult result
+            (λ v. Reads self.entry (number_text v.0) v.1 × KnownNumber v.0 × (Digit (ahead v.1) → ⊥))
+            (λ e. ClearTo self.entry → FirstIn self.entry e) }
+    {
+        if digits.sees(b'0') {
+            return Err(digits.fault(Flaw::Grammar));
+        }
+        let (value, end) = digits.digits()?;
+        if value > LIMIT {
+            return Err(self.fault(Flaw::Range));
+        }
+        // The value is proved to fit, so a conversion that can fail would add a case that never comes.
+        Ok((-(value as i32), end))
     }
-    if sees(bytes, at + 1, b'>') {
-        return (Relation::NotEqual, at + 2);
+
+    /// What is added to the cell whose number ends here, or taken from it.
+    fn shift(self) -> Result<(Shift, Cursor<'a>), FormulaFault>
+        requires { AwaitsShift self }
+        ensures { MatchResult result
+            (λ v. Reads self.entry (shift_text v.0) v.1 × KnownShift v.0 × EndsShift v.0 (ahead v.1))
+            (λ e. ClearTo self.entry → FirstIn self.entry e) }
+    {
+        if let Some(digits) = self.past(b'+') {
+            let (value, end) = digits.number()?;
+            return Ok((Shift::Plus(value), end));
+        }
+        if let Some(digits) = self.past(b'-') {
+            let (value, end) = digits.number()?;
+            return Ok((Shift::Minus(value), end));
+        }
+        Ok((Shift::Bare, self))
     }
-    (Relation::Less, at + 1)
+
+    /// A cell, whose C stands here and before `name`, and its shift.
+    fn cell(self, name: Cursor<'a>) -> Result<(Side, Cursor<'a>), FormulaFault>
+        requires awaits { AwaitsSide self.text.bytes.now self.at }
+        requires letter { Reads self (67 ∷ []) name }
+        requires clear { ClearTo self }
+        ensures { MatchResult result
+            (λ v. Reads self.entry (side_text v.0) v.1 × KnownSide self.entry.text.cells v.0 × EndsSide v.0 (ahead v.1))
+            (λ e. FirstIn self.entry e) }
+    {
+        let (cell, after) = name.digits()?;
+        if cell >= u32::from(self.text.cells) {
+            return Err(self.fault(Flaw::Range));
+        }
+        if after.digit().is_some() {
+            return Err(after.fault(Flaw::Grammar));
+        }
+        let (shift, end) = after.shift()?;
+        Ok((Side::Cell(cell as u8, shift), end))
+    }
+
+    /// One side of a comparison.
+    pub fn side(self) -> Result<(Side, Cursor<'a>), FormulaFault>
+        requires awaits { AwaitsSide self.text.bytes.now self.at }
+        requires clear { ClearTo self }
+        ensures { MatchResult result
+            (λ v. Reads self.entry (side_text v.0) v.1 × KnownSide self.entry.text.cells v.0 × EndsSide v.0 (ahead v.1))
+            (λ e. FirstIn self.entry e) }
+    {
+        if let Some(name) = self.past(b'C') {
+            return self.cell(name);
+        }
+        if let Some(digits) = self.past(b'-') {
+            let (value, end) = self.negative(digits)?;
+            return Ok((Side::Number(value), end));
+        }
+        let (value, end) = self.number()?;
+        Ok((Side::Number(value as i32), end))
+    }
+
+    /// The relation of a comparison.
+    pub fn relation(self) -> Result<(Relation, Cursor<'a>), FormulaFault>
+        ensures { MatchResult result
+            (λ v. Reads self.entry (relation_text v.0) v.1 × EndsRelation v.0 (ahead v.1))
+            (λ e. (e ≡ outside self.entry.at) × (60 ≤ ahead self.entry → ahead self.entry ≤ 62 → ⊥)) }
+    {
+        if let Some(end) = self.past(b'=') {
+            return Ok((Relation::Equal, end));
+        }
+        if let Some(then) = self.past(b'<') {
+            return Ok(then.less());
+        }
+        if let Some(then) = self.past(b'>') {
+            return Ok(then.greater());
+        }
+        Err(self.fault(Flaw::Grammar))
+    }
+
+    /// The relation whose `<` stands before this place.
+    fn less(self) -> (Relation, Cursor<'a>)
+        ensures { (a : Cursor) → Reads a (60 ∷ []) self.entry → Reads a (relation_text result.0) result.1 × EndsRelation result.0 (ahead result.1) }
+    {
+        if let Some(end) = self.past(b'=') {
+            return (Relation::LessEqual, end);
+        }
+        if let Some(end) = self.past(b'>') {
+            return (Relation::NotEqual, end);
+        }
+        (Relation::Less, self)
+    }
+
+    /// The relation whose `>` stands before this place.
+    fn greater(self) -> (Relation, Cursor<'a>)
+        ensures { (a : Cursor) → Reads a (62 ∷ []) self.entry → Reads a (relation_text result.0) result.1 × EndsRelation result.0 (ahead result.1) }
+    {
+        match self.past(b'=') {
+            Some(end) => (Relation::GreaterEqual, end),
+            None => (Relation::Greater, self),
+        }
+    }
 }

@@ -5,6 +5,12 @@ use Rattle.std.proofs.lemmas.List.{flat_map_more}
 use Rattle.std.proofs.lemmas.List.FromFn.{map-range_with_len_more}
 use Rattle.bits.specs.Sets.{in?, below, members}
 
+-- the first line, and then the others
+pub after_first : (out first word number rest was now : List ℕ) → first ≡ word ++ (number ++ (10 ∷ [])) → was ≡ out ++ first → now ≡ was ++ rest → now ≡ out ++ (word ++ (number ++ (10 ∷ rest)))
+after_first out first word number rest was now is p q =
+    q ∙ ap (λ l. l ++ rest) (p ∙ ap (λ l. out ++ l) is) ∙ append_assoc out (word ++ (number ++ (10 ∷ []))) rest
+    ∙ ap (λ l. out ++ l) (append_assoc word (number ++ (10 ∷ [])) rest ∙ ap (λ l. word ++ l) (append_assoc number (10 ∷ []) rest))
+
 joined_append : {X A : Type 0} (f : X → List A) (xs ys : List X) → flat_map f (xs ++ ys) ≡ flat_map f xs ++ flat_map f ys
 joined_append f [] ys = refl
 joined_append f (x ∷ xs) ys = ap (λ l. f x ++ l) (joined_append f xs ys) ∙ sym (append_assoc (f x) (flat_map f xs) (flat_map f ys))

@@ -4,10 +4,6 @@ use Rattle.std.specs.List.{range_with_len, flat_map}
 use Rattle.bits.specs.Sets.{members}
 use Rattle.formulas.specs.Tree.{numeral, number_text}
 
--- FAULT, the number and the offset
-abbrev pub fault_text : ℕ → ℕ → List ℕ
-fault_text n k = codes "FAULT " ++ (numeral n ++ (32 ∷ (numeral k ++ (10 ∷ []))))
-
 -- C, the cell's number, =, and a number
 abbrev pub cell_line : ℕ → ℤ → List ℕ
 cell_line c z = 67 ∷ (numeral c ++ (61 ∷ (number_text z ++ (10 ∷ []))))

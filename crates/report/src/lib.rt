@@ -1,100 +1,74 @@
 //! The text that tells a Fit's answer. Uses `bits`, `formulas` and `text`.
 #![tactic(auto)]
 
-ghost use Rattle.std.specs.Prelude.{◌≡◌, ℕ, ◌+◌, ◌*◌, ◌<◌, [], ◌++◌, get_or, pos, if◌then◌else◌, OnOk, slice_index, slice_index_or};
+ghost use Rattle.std.specs.Prelude.{◌≡◌, ℕ, ◌+◌, ◌*◌, ◌<◌, [], ◌++◌, get_or, pos, if◌then◌else◌, OnOk, slice_index, slice_index_or, string_bytes};
 ghost use Rattle.bits.specs.Sets.{in?};
-ghost use Rattle.report.specs.Report.{fault_text, cell_line, fits_text, rule_line, clash_text};
+ghost use Rattle.report.specs.Report.{cell_line, fits_text, rule_line, clash_text};
 
 use bits::has;
 use std::alloc::AllocError;
-use text::{push_bytes, push_digits, push_number};
-
-/// `FAULT`, a number and an offset.
-pub fn push_fault(out: &mut Vec<u8>, number: u8, offset: usize) -> Result<(), AllocError>
-    ensures { OnOk result (out.new.items ≡ out.old.items ++ fault_text number offset) }
-{
-    push_bytes(out, b"FAULT ")?;
-    push_digits(out, u64::from(number))?;
-    push_bytes(out, b" ")?;
-    push_digits(out, offset as u64)?;
-    push_bytes(out, b"\n")
-}
-
-/// The place of a cell, 0 where the filling is too short.
-fn place_of(filling: &[u8], cell: u8) -> u8
-    ensures { result ≡ slice_index filling.now cell }
-{
-    let cell = cell as usize;
-    if cell < filling.len() {
-        filling[cell]
-    } else {
-        0
-    }
-}
 
 /// The number at a place of a cell's list, 0 where it is missing; the lists have 64 places each.
 fn number_at(numbers: &[i32], cell: u8, place: u8) -> i32
     ensures { result ≡ slice_index_or numbers.now (64 * cell + place) (pos 0) }
 {
-    let index = 64 * cell as usize + place as usize;
-    if index < numbers.len() {
-        numbers[index]
-    } else {
-        0
-    }
+    let index = 64 * usize::from(cell) + usize::from(place);
+    numbers.get(index).copied().unwrap_or(0)
+}
+
+/// The number that a filling gives a cell; a cell past the filling has place 0.
+fn number_in(numbers: &[i32], filling: &[u8], cell: u8) -> i32
+    ensures { result ≡ slice_index_or numbers.now (64 * cell + slice_index filling.now cell) (pos 0) }
+{
+    let place = filling.get(usize::from(cell)).copied().unwrap_or(0);
+    number_at(numbers, cell, place)
 }
 
 /// A cell and its number, as `C0=3`.
-fn push_cell(out: &mut Vec<u8>, cell: u8, number: i32) -> Result<(), AllocError>
-    ensures { OnOk result (out.new.items ≡ out.old.items ++ cell_line cell number) }
+#[tactic(auto, using(text::proofs::Decimals::decimal_numeral, text::proofs::Decimals::signed_number_text))]
+fn push_cell(out: &mut String, cell: u8, number: i32) -> Result<(), AllocError>
+    ensures { OnOk result (string_bytes out.new ≡ string_bytes out.old ++ cell_line cell number) }
 {
-    push_bytes(out, b"C")?;
-    push_digits(out, u64::from(cell))?;
-    push_bytes(out, b"=")?;
-    push_number(out, number)?;
-    push_bytes(out, b"\n")
+    writeln!(out, "C{cell}={number}")
 }
 
 /// `FITS` and the number of lines, then each cell with the number at its place.
+#[tactic(auto, using(text::proofs::Decimals::decimal_numeral))]
 pub fn push_fits(
-    out: &mut Vec<u8>,
+    out: &mut String,
     lines: usize,
     cells: u8,
     numbers: &[i32],
     filling: &[u8],
 ) -> Result<(), AllocError>
-    ensures { OnOk result (out.new.items ≡ out.old.items ++ fits_text lines cells (λ c. get_or numbers.now (64 * c + slice_index filling.now c) (pos 0))) }
+    ensures { OnOk result (string_bytes out.new ≡ string_bytes out.old ++ fits_text lines cells (λ c. get_or numbers.now (64 * c + slice_index filling.now c) (pos 0))) }
 {
-    push_bytes(out, b"FITS ")?;
-    push_digits(out, lines as u64)?;
-    push_bytes(out, b"\n")?;
+    writeln!(out, "FITS {lines}")?;
     for cell in 0..cells {
-        push_cell(out, cell, number_at(numbers, cell, place_of(filling, cell)))?;
+        push_cell(out, cell, number_in(numbers, filling, cell))?;
     }
     Ok(())
 }
 
 /// A rule of the core, as `rule 0`; nothing for any other rule.
-fn push_rule(out: &mut Vec<u8>, core: u64, rule: u8) -> Result<(), AllocError>
+#[tactic(auto, using(text::proofs::Decimals::decimal_numeral))]
+fn push_rule(out: &mut String, core: u64, rule: u8) -> Result<(), AllocError>
     requires { rule < 64 }
-    ensures { OnOk result (out.new.items ≡ out.old.items ++ (if in? core rule then rule_line rule else [])) }
+    ensures { OnOk result (string_bytes out.new ≡ string_bytes out.old ++ (if in? core rule then rule_line rule else [])) }
 {
     if !has(core, rule) {
         return Ok(());
     }
-    push_bytes(out, b"rule ")?;
-    push_digits(out, u64::from(rule))?;
-    push_bytes(out, b"\n")
+    writeln!(out, "rule {rule}")
 }
 
 /// `CLASH` and the number of lines, then the rules of the core, rising.
-pub fn push_clash(out: &mut Vec<u8>, lines: usize, core: u64) -> Result<(), AllocError>
-    ensures { OnOk result (out.new.items ≡ out.old.items ++ clash_text lines core) }
+#[tactic(auto, using(text::proofs::Decimals::decimal_numeral))]
+pub fn push_clash(out: &mut String, lines: usize, core: u64) -> Result<(), AllocError>
+    ensures { OnOk result (string_bytes out.new ≡ string_bytes out.old ++ clash_text lines core) }
 {
-    push_bytes(out, b"CLASH ")?;
-    push_digits(out, lines as u64)?;
-    push_bytes(out, b"\n")?;
-    for rule in 0..64u8 {
+    writeln!(out, "CLASH {lines}")?;
+    for rule in 0..64 {
         push_rule(out, core, rule)?;
     }
     Ok(())

@@ -1,126 +1,99 @@
 -- What is found among the stored rows and among the others is support. Assumes nothing.
-use Rattle.std.proofs.Common.{◌≡◌, ℕ, ◌+◌, ◌<◌, ◌≤◌, Bool, true, not, eqb, List, length, get_or, set, Decides, sym, refl, ap, ◌∙◌, subst, ⊎_elim, arith}
-use Rattle.std.proofs.lemmas.List.{get_or_default, get_or-set_same, get_or-set_other}
-use Rattle.std.proofs.lemmas.Bool.{and_parts, and_from, not-true, not_from_false, eq-eqb, cases_Bool, cases_eq, both_ways}
-use Rattle.network.specs.Book.{Rule, Supported, Remains}
+use Rattle.std.proofs.Common.{◌≡◌, ℕ, ◌<◌, ◌≤◌, ◌/◌, Bool, true, not, eqb, List, length, get_or, take, Decides, sym, refl, ap, ◌∙◌, subst, ⊎_elim, arith}
+use Rattle.std.proofs.lemmas.List.{length-take-le}
+use Rattle.std.proofs.lemmas.Bool.{and_parts, and_from, not-true, not_from_false, eq-eqb, cases_Bool, both_ways}
+use Rattle.network.specs.Book.{Rule, Supported}
+use Rattle.network.specs.Tries.{Allows, Tried}
+use Rattle.network.proofs.Supports.{supported_row, row_tried}
 use Rattle.rows.specs.declared.rule.Kind.{Kind}
 use Rattle.rows.specs.declared.rule.Kind.TheVariants.{Permitted, Forbidden}
 use Rattle.rows.specs.declared.rule.RowsRule.{RowsRule}
-use Rattle.rows.specs.Rows.{row_at, stores, permits_of, rule_of}
+use Rattle.rows.specs.Rows.{Fit, row_at, stores, permits_of, rule_of}
 use Rattle.rows.specs.RowsLaws.{width_of, cell_of}
-use Rattle.rows.specs.Support.{Allowed, Allows, Within, Same, Unstored}
-use Rattle.rows.proofs.Rows.{row_wide, row_place, stores_decides, front, front_wide, front_place, front_is, same_front, front_same}
+use Rattle.rows.specs.Support.{row_in, Unstored}
+use Rattle.rows.proofs.Rows.{stores_decides, stored, count_is, row_is}
 
--- ---- the search for a row that is not stored
-module _ (bytes : List ℕ) (rule : RowsRule) (masks : List ℕ) where
-  abbrev Found : List ℕ → Type 0
-  Found places = (j : ℕ) × (j < rule.count) × Same bytes rule j places
-
-  -- all places are chosen
-  pub last_yes : (places : List ℕ) (n : ℕ) → n ≡ rule.width → (Found places → ⊥) → Unstored bytes rule masks places n
-  last_yes places n end none = record {
-    row = front bytes rule places;
-    wide = front_wide bytes rule places;
-    begins = λ k h. front_place bytes rule places k (omega arith);
-    absent = ⊎_elim
-        (λ t. let j = (stores_decides bytes rule (front bytes rule places)).0 t in absurd (none (j.0, j.1, front_same bytes rule places j.0 j.2)))
-        (λ f. f)
-        (cases_Bool (stores bytes rule (front bytes rule places)));
-    each = λ k h l. absurd (omega arith);
-  }
-
-  pub last_no : (places : List ℕ) (n : ℕ) → n ≡ rule.width → Found places → Unstored bytes rule masks places n → ⊥
-  last_no places n end j w =
-      let is : w.row ≡ front bytes rule places = front_is bytes rule places w.row w.wide (λ k h. w.begins k (omega arith)) in
-      both_ways _ w.absent ((stores_decides bytes rule w.row).1 (j.0, j.1, same_front bytes rule places j.0 j.2 ∙ sym is))
-
-  -- place p is chosen at position n
-  module _ (places : List ℕ) (n p : ℕ) (lt : n < length places) where
-    pub step_yes : Allowed masks n p → Unstored bytes rule masks (set places n p) (n + 1) → Unstored bytes rule masks places n
-    step_yes allowed w = record {
-      row = w.row;
-      wide = w.wide;
-      begins = λ k h. w.begins k (omega arith) ∙ get_or-set_other places n k p 0 (omega arith);
-      absent = w.absent;
-      each = λ k h l. ⊎_elim
-          (λ e.
-          let v : get_or w.row k 0 ≡ p = w.begins k (omega arith) ∙ ap (λ x. get_or (set places n p) x 0) e ∙ get_or-set_same places n p 0 lt in
-          subst (Allowed masks k) (sym v) (subst (λ x. Allowed masks x p) (sym e) allowed))
-          (λ ne. w.each k (omega arith) l)
-          (cases_eq k n);
-    }
-
-    pub step_no : (Unstored bytes rule masks (set places n p) (n + 1) → ⊥) → (w : Unstored bytes rule masks places n) → get_or w.row n 0 ≡ p → ⊥
-    step_no none w is = none (record {
-      row = w.row;
-      wide = w.wide;
-      begins = λ k h. ⊎_elim
-          (λ e. ap (λ x. get_or w.row x 0) e ∙ is ∙ sym (ap (λ x. get_or (set places n p) x 0) e ∙ get_or-set_same places n p 0 lt))
-          (λ ne. w.begins k (omega arith) ∙ sym (get_or-set_other places n k p 0 ne))
-          (cases_eq k n);
-      absent = w.absent;
-      each = λ k h l. w.each k (omega arith) l;
-    })
-
--- ---- support
 module _ (bytes : List ℕ) (rule : RowsRule) where
   -- the rule as if it were of this kind
-  abbrev pub of_kind : Kind → Rule
+  abbrev of_kind : Kind → Rule
   of_kind kind = record { cells = (rule_of bytes rule).cells; permits = permits_of kind bytes rule }
 
-module _ (bytes : List ℕ) (rule : RowsRule) (few : rule.width ≤ 4) (i v : ℕ) (within : i < rule.width) (sets masks : List ℕ) (allows : Allows rule i v sets masks) where
+module _ (bytes : List ℕ) (rule : RowsRule) (fit : Fit rule (length bytes)) (i v : ℕ) (within : i < rule.width)
+    (sets masks : List ℕ) (four : length masks ≡ 4) (allows : Allows rule.cells i v sets masks) where
   wide : length (rule_of bytes rule).cells ≡ rule.width
   wide = width_of bytes rule
 
-  -- a row with allowed places only
-  abbrev Good : List ℕ → Type 0
-  Good row = (k : ℕ) → k < rule.width → Allowed masks k (get_or row k 64)
+  abbrev allowed : List ℕ
+  allowed = take rule.width masks
 
-  good : (kind : Kind) (row : List ℕ) → length row ≡ rule.width → permits_of kind bytes rule row ≡ true → Good row → Supported (of_kind bytes rule kind) i v sets
-  good kind row long permitted all = record {
-    row = row;
-    wide = long ∙ sym wide;
-    within = rw wide within;
-    permitted = permitted;
-    here = ((allows i (omega arith) (get_or row i 64)).0 (all i within)).1 refl;
-    remain = λ k h.
-        let l : k < rule.width = omega (arith, wide) in
-        rw (cell_of bytes rule k 255 l) ((allows k (omega arith) (get_or row k 64)).0 (all k l)).0;
-  }
+  first : (k : ℕ) → k < length (rule_of bytes rule).cells → get_or (rule_of bytes rule).cells k 255 ≡ get_or rule.cells k 0
+  first k h = cell_of bytes rule k 255 (omega (arith, wide))
 
-  goods : (kind : Kind) (s : Supported (of_kind bytes rule kind) i v sets) → Good s.row
-  goods kind s k l =
-      (allows k (omega arith) (get_or s.row k 64)).1 (
-        subst (λ x. Remains sets x (get_or s.row k 64)) (cell_of bytes rule k 255 l) (s.remain k (omega (arith, wide))),
-        (λ e. ap (λ x. get_or s.row x 64) e ∙ s.here),
+  few : length (rule_of bytes rule).cells ≤ 4
+  few = omega (arith, wide, fit.good.few)
+
+  -- a permitted row of allowed places is support, and support is one
+  supports : (kind : Kind) (row : List ℕ) → Tried allowed row → permits_of kind bytes rule row ≡ true → Supported (of_kind bytes rule kind) i v sets
+  supports kind row t = supported_row (of_kind bytes rule kind) rule.cells first few i v sets masks four allows (omega (arith, wide)) row (subst (λ n. Tried (take n masks) row) (sym wide) t)
+
+  tried : (kind : Kind) (s : Supported (of_kind bytes rule kind) i v sets) → Tried allowed s.row
+  tried kind s = subst (λ n. Tried (take n masks) s.row) wide (row_tried (of_kind bytes rule kind) rule.cells first few i v sets masks four allows s)
+
+  allowed_wide : length allowed ≡ rule.width
+  allowed_wide = length-take-le rule.width masks (omega (arith, four, fit.good.few))
+
+  -- a row among the stored ones, as the search numbers them
+  abbrev at : ℕ → List ℕ
+  at = row_in (length allowed) (stored bytes rule fit)
+
+  abbrev count : ℕ
+  count = length (stored bytes rule fit) / length allowed
+
+  count_same : count ≡ rule.count
+  count_same = ap (λ (n : ℕ). length (stored bytes rule fit) / n) allowed_wide ∙ count_is bytes rule fit
+
+  at_same : (j : ℕ) → j < rule.count → at j ≡ row_at bytes rule j
+  at_same j h = ap (λ n. row_in n (stored bytes rule fit) j) allowed_wide ∙ row_is bytes rule fit j h
+
+  stored_at : (row : List ℕ) → Decides (stores bytes rule row) ((j : ℕ) × (j < count) × (at j ≡ row))
+  stored_at row =
+      let d = stores_decides bytes rule row in (
+        (λ e. let j = d.0 e in (j.0, omega (arith, j.1, count_same), at_same j.0 j.1 ∙ j.2)),
+        (λ j. let low : j.0 < rule.count = omega (arith, j.1, count_same) in d.1 (j.0, low, sym (at_same j.0 low) ∙ j.2)),
       )
 
-  pub permitted_decides : (t : Bool) → Decides t ((j : ℕ) × (j < rule.count) × Within bytes rule j masks) → Decides t (Supported (of_kind bytes rule Permitted) i v sets)
+  permitted_decides : (t : Bool) → Decides t ((j : ℕ) × (j < count) × Tried allowed (at j)) → Decides t (Supported (of_kind bytes rule Permitted) i v sets)
   permitted_decides t d = (
-    (λ e.
-        let j = d.0 e in
-        good Permitted (row_at bytes rule j.0) (row_wide bytes rule j.0)
-        ((stores_decides bytes rule (row_at bytes rule j.0)).1 (j.0, j.1, refl))
-        (λ k l. rw (row_place bytes rule j.0 k 64 l) (j.2 k l))),
+    (λ e. let j = d.0 e in supports Permitted (at j.0) j.2 ((stored_at (at j.0)).1 (j.0, j.1, refl))),
     (λ s.
-        let j = (stores_decides bytes rule s.row).0 s.permitted in
-        d.1 (j.0, j.1, λ k l. subst (Allowed masks k) (ap (λ row. get_or row k 64) (sym j.2) ∙ row_place bytes rule j.0 k 64 l) (goods Permitted s k l))),
+        let j = (stored_at s.row).0 s.permitted in
+        d.1 (j.0, j.1, subst (Tried allowed) (sym j.2) (tried Permitted s))),
   )
 
-  pub forbidden_decides : (places : List ℕ) (t : Bool) → Decides t (Unstored bytes rule masks places 0) → Decides t (Supported (of_kind bytes rule Forbidden) i v sets)
-  forbidden_decides places t d = (
+  forbidden_decides : (t : Bool) → Decides t (Unstored count (stored bytes rule fit) allowed) → Decides t (Supported (of_kind bytes rule Forbidden) i v sets)
+  forbidden_decides t d = (
     (λ e.
         let u = d.0 e in
-        good Forbidden u.row u.wide
-        (and_from (eqb (length u.row) rule.width) (not (stores bytes rule u.row)) (eq-eqb (length u.row) rule.width u.wide) (not_from_false _ u.absent))
-        (λ k l. rw (get_or_default u.row k 64 0 (omega (arith, u.wide))) (u.each k (omega arith) l))),
+        supports Forbidden u.row u.tried
+        (and_from (eqb (length u.row) rule.width) (not (stores bytes rule u.row)) (eq-eqb (length u.row) rule.width (u.tried.0 ∙ allowed_wide))
+        (not_from_false _ (⊎_elim (λ y. let j = (stored_at u.row).0 y in absurd (u.absent j.0 j.1 j.2)) (λ f. f) (cases_Bool (stores bytes rule u.row)))))),
     (λ s.
         let both = and_parts (eqb (length s.row) rule.width) (not (stores bytes rule s.row)) s.permitted in
         d.1 (record {
           row = s.row;
-          wide = s.wide ∙ wide;
-          begins = λ k h. absurd (omega arith);
-          absent = not-true _ both.1;
-          each = λ k _ l. rw (get_or_default s.row k 0 64 (omega (arith, s.wide, wide))) (goods Forbidden s k l);
+          tried = tried Forbidden s;
+          absent = λ j h e. both_ways _ (not-true _ both.1) ((stored_at s.row).1 (j, h, e));
         })),
   )
+
+  -- what the book finds, of a rule of its kind
+  module _ (rows : List ℕ) (same : rows ≡ stored bytes rule fit) (t : Bool) where
+    pub permitted_supported : rule.kind ≡ Permitted → Decides t ((j : ℕ) × (j < length rows / length allowed) × Tried allowed (row_in (length allowed) rows j)) → Decides t (Supported (rule_of bytes rule) i v sets)
+    permitted_supported is d =
+        subst (λ kind. Decides t (Supported (of_kind bytes rule kind) i v sets)) (sym is)
+        (permitted_decides t (subst (λ rows. Decides t ((j : ℕ) × (j < length rows / length allowed) × Tried allowed (row_in (length allowed) rows j))) same d))
+
+    pub forbidden_supported : rule.kind ≡ Forbidden → Decides t (Unstored (length rows / length allowed) rows allowed) → Decides t (Supported (rule_of bytes rule) i v sets)
+    forbidden_supported is d =
+        subst (λ kind. Decides t (Supported (of_kind bytes rule kind) i v sets)) (sym is)
+        (forbidden_decides t (subst (λ rows. Decides t (Unstored (length rows / length allowed) rows allowed)) same d))

@@ -1,5 +1,5 @@
 pub mod Rows
-pub mod Masks
+pub mod Chunks
 pub mod Finding
 pub mod Cells
 pub mod Pigeon

@@ -1,15 +1,16 @@
 -- Where more rows are allowed than stored, one of them is not stored. Assumes nothing.
-use Rattle.std.proofs.Common.{◌≡◌, ℕ, zero, suc, ◌+◌, ◌*◌, ◌/◌, ◌%◌, ◌^◌, ◌<◌, ◌≤◌, Bool, true, false, ◌&&◌, eqb, ltb, ◌⊎◌, List, [], ◌∷◌, length, get_or, set, sym, refl, ap, ◌∙◌, subst, inl, inr, ⊎_elim, add-zero, mul_assoc, add-mul, mul-pos, one-mul, pow-suc, zero-add, zero-mul, mul-one, add-one, arith, length-set}
+use Rattle.std.proofs.Common.{◌≡◌, ℕ, zero, suc, ◌+◌, ◌*◌, ◌/◌, ◌%◌, ◌^◌, ◌<◌, ◌≤◌, ◌≢◌, Bool, true, false, ◌&&◌, ◌||◌, eqb, ltb, ◌⊎◌, List, [], ◌∷◌, length, get_or, take, set, Decides, sym, refl, ap, ◌∙◌, subst, inl, inr, ⊎_elim, add-zero, mul_assoc, add-mul, mul-pos, one-mul, pow-suc, zero-add, zero-mul, mul-one, add-one, arith, length-set}
+use Rattle.std.specs.Str.{bytes_eq}
 use Rattle.std.proofs.lemmas.Nat.{mul-le}
 use Rattle.std.proofs.lemmas.List.{get_or-set_same, get_or-set_other}
+use Rattle.std.proofs.lemmas.Slice.Eq.{bytes_eq-Decides}
 use Rattle.std.proofs.lemmas.Bool.{both_ways, cases_Bool, cases_eq, cases_order, and_parts, and_from, eq-eqb, ne_eqb, lt-ltb, le-ltb}
+use Rattle.std.proofs.lemmas.Bool.Decides.{Decides-below_or}
 use Rattle.bits.specs.Sets.{In, below, members, size}
 use Rattle.bits.proofs.Size.{below_yes, below_no, below_zero, size_le, some_size}
-use Rattle.rows.specs.declared.rule.RowsRule.{RowsRule}
-use Rattle.rows.specs.Rows.{place_at, stores}
-use Rattle.rows.specs.Support.{Allowed, Unstored, rows_within}
-use Rattle.rows.proofs.Rows.{stores_decides, front, front_same, same_front}
-use Rattle.rows.proofs.Finding.{last_yes, step_yes}
+use Rattle.network.specs.Tries.{Allowed, GoesOn, Tried}
+use Rattle.network.proofs.Chosen.{all_chosen, with_place}
+use Rattle.rows.specs.Support.{rows_within}
 
 -- ---- how many of the first n numbers pass a test
 abbrev bit : Bool → ℕ
@@ -88,8 +89,12 @@ module _ {A : Type 0} (b : ℕ → Bool) (q : ℕ → ℕ) (n m x : ℕ) (each :
       (λ all. inr (omega (arith, all, tally_less (λ j. b j && ltb (q j) 64) b (λ j e. (and_parts (b j) (ltb (q j) 64) e).0) n)))
       (shares 64 (omega arith))
 
--- ---- rows
-module _ (bytes : List ℕ) (rule : RowsRule) (masks : List ℕ) where
+-- ---- rows: `at` gives count of them
+module _ (at : ℕ → List ℕ) (count : ℕ) (masks : List ℕ) where
+  -- a row that goes on so and is none of them
+  abbrev New : List ℕ → ℕ → Type 0
+  New places n = (row : List ℕ) × GoesOn masks places n row × ((j : ℕ) → j < count → at j ≢ row)
+
   -- the allowed rows of d positions from n on
   abbrev ways : ℕ → ℕ → ℕ
   ways zero n = 1
@@ -102,42 +107,48 @@ module _ (bytes : List ℕ) (rule : RowsRule) (masks : List ℕ) where
       ∙ ap (λ (y : ℕ). rows_within masks y * ways d (n + 1)) (sym (add-one n))
       ∙ ways_within d (n + 1) ∙ ap (rows_within masks) (omega arith)
 
-  -- a row that is not stored, or as many stored rows that begin so as there are ways to go on; b is the test for these
-  unstored_or : (d n : ℕ) (places : List ℕ) (b : ℕ → Bool) → n + d ≡ rule.width → rule.width ≤ length places
-      → ((j : ℕ) → ((k : ℕ) → k < n → place_at bytes rule j k ≡ get_or places k 0) → b j ≡ true)
-      → Unstored bytes rule masks places n ⊎ (ways d n ≤ tally b rule.count)
-  unstored_or zero n places b end wide begins =
-      let stored = stores_decides bytes rule (front bytes rule places) in
+  -- the row is one of the first n
+  abbrev is_one : List ℕ → ℕ → Bool
+  is_one row zero = false
+  is_one row (suc n) = bytes_eq (at n) row || is_one row n
+
+  is_one_decides : (row : List ℕ) → Decides (is_one row count) ((j : ℕ) × (j < count) × (at j ≡ row))
+  is_one_decides row = Decides-below_or (λ j. bytes_eq (at j) row) (λ j. at j ≡ row) (is_one row) (λ j. bytes_eq-Decides (at j) row) refl (λ _. refl) count
+
+  -- a new row, or as many rows that begin so as there are ways to go on; b is the test for these
+  new_or : (d n : ℕ) (places : List ℕ) (b : ℕ → Bool) → n + d ≡ length masks → length masks ≤ length places
+      → ((j : ℕ) → ((k : ℕ) → k < n → get_or (at j) k 0 ≡ get_or places k 0) → b j ≡ true)
+      → New places n ⊎ (ways d n ≤ tally b count)
+  new_or zero n places b end wide begins =
+      let row = take n places in
+      let new = all_chosen masks places n (omega arith) (omega arith) in
       ⊎_elim
-      (λ t. let j = stored.0 t in inr (tally_some b j.0 rule.count j.1 (begins j.0 (λ k h. front_same bytes rule places j.0 j.2 k (omega arith)))))
-      (λ f. inl (last_yes bytes rule masks places n (omega arith) (λ j. absurd (both_ways _ f (stored.1 (j.0, j.1, same_front bytes rule places j.0 j.2))))))
-      (cases_Bool (stores bytes rule (front bytes rule places)))
-  unstored_or (suc d) n places b end wide begins =
-      shared b (λ j. place_at bytes rule j n) rule.count (get_or masks n 0) (ways d (n + 1))
+      (λ t. let j = (is_one_decides row).0 t in
+      inr (tally_some b j.0 count j.1 (begins j.0 (λ k h. ap (λ x. get_or x k 0) j.2 ∙ new.begins k h))))
+      (λ f. inl (row, new, λ j lt e. both_ways _ f ((is_one_decides row).1 (j, lt, e))))
+      (cases_Bool (is_one row count))
+  new_or (suc d) n places b end wide begins =
+      shared b (λ j. get_or (at j) n 0) count (get_or masks n 0) (ways d (n + 1))
       (λ v low is. ⊎_elim
-      (λ u. inl (step_yes bytes rule masks places n v (omega arith) (low, is) u))
+      (λ u. inl (u.0, with_place masks places n v (omega arith) u.0 (low, is) u.1, u.2))
       inr
-      (unstored_or d (n + 1) (set places n v) (λ j. b j && eqb (place_at bytes rule j n) v) (omega arith) (omega (arith, length-set places n v))
-      (λ j same. and_from (b j) (eqb (place_at bytes rule j n) v)
+      (new_or d (n + 1) (set places n v) (λ j. b j && eqb (get_or (at j) n 0) v) (omega arith) (omega (arith, length-set places n v))
+      (λ j same. and_from (b j) (eqb (get_or (at j) n 0) v)
       (begins j (λ k h. same k (omega arith) ∙ get_or-set_other places n k v 0 (λ e. omega arith)))
-      (eq-eqb (place_at bytes rule j n) v (same n (omega arith) ∙ get_or-set_same places n v 0 (omega arith))))))
+      (eq-eqb (get_or (at j) n 0) v (same n (omega arith) ∙ get_or-set_same places n v 0 (omega arith))))))
 
-  -- the first places do not matter where none is asked for
-  pub any_start : (places others : List ℕ) → Unstored bytes rule masks places 0 → Unstored bytes rule masks others 0
-  any_start places others u = record { row = u.row; wide = u.wide; begins = λ k h. absurd (omega arith); absent = u.absent; each = u.each }
+  pub more_than_stored : length masks ≤ 4 → count < rows_within masks (length masks) → (row : List ℕ) × Tried masks row × ((j : ℕ) → j < count → at j ≢ row)
+  more_than_stored few more = ⊎_elim
+      (λ u. (u.0, (u.1.wide, λ k h. u.1.each k (omega arith) h), u.2))
+      (λ le. absurd (omega (arith, tally_le (λ _. true) count, one-mul (ways (length masks) 0), ways_within (length masks) 0, ap (rows_within masks) (zero-add (length masks)))))
+      (new_or (length masks) 0 (0 ∷ 0 ∷ 0 ∷ 0 ∷ []) (λ _. true) (omega arith) few (λ j _. refl))
 
-  pub more_than_stored : (places : List ℕ) → rule.width ≤ 4 → rule.count < rows_within masks rule.width → Unstored bytes rule masks places 0
-  more_than_stored places few more = ⊎_elim
-      (any_start (0 ∷ 0 ∷ 0 ∷ 0 ∷ []) places)
-      (λ le. absurd (omega (arith, tally_le (λ _. true) rule.count, one-mul (ways rule.width 0), ways_within rule.width 0, ap (rows_within masks) (zero-add rule.width))))
-      (unstored_or rule.width 0 (0 ∷ 0 ∷ 0 ∷ 0 ∷ []) (λ _. true) (omega arith) few (λ j _. refl))
-
-  -- a row with allowed places only is one
-  pub some_within : (row : List ℕ) (n : ℕ) → ((k : ℕ) → k < n → Allowed masks k (get_or row k 0)) → 0 < rows_within masks n
-  some_within row zero all = omega arith
-  some_within row (suc n) all =
-      let here = all n (omega arith) in
-      mul-pos (some_within row n (λ k h. all k (omega arith))) (some_size (get_or masks n 0) (get_or row n 0) here.0 here.1)
+-- a row with allowed places only is one
+pub some_within : (masks row : List ℕ) (n : ℕ) → ((k : ℕ) → k < n → Allowed masks k (get_or row k 0)) → 0 < rows_within masks n
+some_within masks row zero all = omega arith
+some_within masks row (suc n) all =
+    let here = all n (omega arith) in
+    mul-pos (some_within masks row n (λ k h. all k (omega arith))) (some_size (get_or masks n 0) (get_or row n 0) here.0 here.1)
 
 -- few rows of few positions
 within_le : (masks : List ℕ) (n : ℕ) → rows_within masks n ≤ 64 ^ n

@@ -1,15 +1,16 @@
 -- Rows that are stored. Assumes nothing.
-use Rattle.std.proofs.Common.{◌≡◌, ℕ, ◌<◌, not, eqb, List, map, length, get_or, Decides, sym, refl, ap, ◌∙◌, arith}
-use Rattle.std.specs.List.{range_with_len}
+use Rattle.std.proofs.Common.{◌≡◌, ℕ, suc, ◌+◌, ◌*◌, ◌/◌, ◌<◌, ◌≤◌, not, eqb, List, length, get_or, take, drop, Decides, sym, refl, ap, ◌∙◌, mul-le-mul_right, arith}
+use Rattle.std.proofs.Math.Nat.{mul-div_cancel, suc-mul}
 use Rattle.std.specs.Str.{bytes_eq}
-use Rattle.std.proofs.lemmas.List.FromFn.{length-map-range_with_len, get_or-map-range_with_len, fill_by_all}
+use Rattle.std.proofs.lemmas.List.{ext_get_or, get_or-take, get_or-drop, length-take-le, length-drop}
+use Rattle.std.proofs.lemmas.List.FromFn.{length-map-range_with_len, get_or-map-range_with_len}
 use Rattle.std.proofs.lemmas.Slice.Eq.{bytes_eq-Decides}
 use Rattle.std.proofs.lemmas.Bool.Decides.{Decides-below_or, Decides-like, Decides-and, Decides-not, Decides-eqb}
 use Rattle.rows.specs.declared.rule.Kind.{Kind}
 use Rattle.rows.specs.declared.rule.Kind.TheVariants.{Permitted, Forbidden}
 use Rattle.rows.specs.declared.rule.RowsRule.{RowsRule}
-use Rattle.rows.specs.Rows.{place_at, row_at, among, stores, permits_of, Permits}
-use Rattle.rows.specs.Support.{Same}
+use Rattle.rows.specs.Rows.{Fit, place_at, row_at, among, stores, permits_of, Permits}
+use Rattle.rows.specs.Support.{row_in}
 
 module _ (bytes : List ℕ) (rule : RowsRule) where
   -- a stored row by its places
@@ -24,25 +25,37 @@ module _ (bytes : List ℕ) (rule : RowsRule) where
       Decides-below_or (λ j. bytes_eq (row_at bytes rule j) row) (λ j. row_at bytes rule j ≡ row) (among bytes rule row)
       (λ j. bytes_eq-Decides (row_at bytes rule j) row) refl (λ _. refl) rule.count
 
-  module _ (places : List ℕ) where
-    -- the row that has the first of these places
-    abbrev pub front : List ℕ
-    front = map (λ k. get_or places k 0) (range_with_len 0 rule.width)
+-- the rows of a rule that is fit, as they stand
+module _ (bytes : List ℕ) (rule : RowsRule) (fit : Fit rule (length bytes)) where
+  abbrev pub stored : List ℕ
+  stored = take (rule.count * rule.width) (drop rule.start bytes)
 
-    pub front_wide : length front ≡ rule.width
-    front_wide = length-map-range_with_len (λ k. get_or places k 0) 0 rule.width
+  long : length stored ≡ rule.count * rule.width
+  long = length-take-le (rule.count * rule.width) (drop rule.start bytes) (omega (arith, length-drop rule.start bytes, fit.inside))
 
-    pub front_place : (k : ℕ) → k < rule.width → get_or front k 0 ≡ get_or places k 0
-    front_place k h = get_or-map-range_with_len (λ j. get_or places j 0) 0 rule.width k k 0 h (omega arith)
+  pub count_is : length stored / rule.width ≡ rule.count
+  count_is = ap (λ (n : ℕ). n / rule.width) long ∙ mul-div_cancel rule.count fit.good.some
 
-    pub front_is : (row : List ℕ) → length row ≡ rule.width → ((k : ℕ) → k < rule.width → get_or row k 0 ≡ get_or places k 0) → row ≡ front
-    front_is row wide same = fill_by_all (λ k. get_or places k 0) row rule.width 0 wide same
+  pub row_is : (j : ℕ) → j < rule.count → row_in rule.width stored j ≡ row_at bytes rule j
+  row_is j lt = ext_get_or 0 (row_in rule.width stored j) (row_at bytes rule j) (wide ∙ sym (row_wide bytes rule j)) each
+    where
+      room : j * rule.width + rule.width ≤ length stored
+      room =
+          let below : suc j * rule.width ≤ rule.count * rule.width = mul-le-mul_right rule.width (omega arith) in
+          omega (arith, below, long, suc-mul j rule.width)
 
-    pub same_front : (j : ℕ) → Same bytes rule j places → row_at bytes rule j ≡ front
-    same_front j same = front_is (row_at bytes rule j) (row_wide j) (λ k h. row_place j k 0 h ∙ same k h)
+      wide : length (row_in rule.width stored j) ≡ rule.width
+      wide = length-take-le rule.width (drop (j * rule.width) stored) (omega (arith, room, length-drop (j * rule.width) stored))
 
-    pub front_same : (j : ℕ) → row_at bytes rule j ≡ front → Same bytes rule j places
-    front_same j e k h = sym (row_place j k 0 h) ∙ ap (λ row. get_or row k 0) e ∙ front_place k h
+      each : (k : ℕ) → k < length (row_in rule.width stored j) → get_or (row_in rule.width stored j) k 0 ≡ get_or (row_at bytes rule j) k 0
+      each k h =
+          let in_row : k < rule.width = omega (arith, wide) in
+          get_or-take rule.width (drop (j * rule.width) stored) k 0 in_row
+          ∙ get_or-drop (j * rule.width) stored k 0
+          ∙ get_or-take (rule.count * rule.width) (drop rule.start bytes) (j * rule.width + k) 0 (omega (arith, room, long))
+          ∙ get_or-drop rule.start bytes (j * rule.width + k) 0
+          ∙ ap (λ x. get_or bytes x 0) (omega arith)
+          ∙ sym (row_place bytes rule j k 0 in_row)
 
 -- the test tells what it stands for
 pub permits_decides : (kind : Kind) (bytes : List ℕ) (rule : RowsRule) (row : List ℕ) → Decides (permits_of kind bytes rule row) (Permits kind bytes rule row)

@@ -11,7 +11,7 @@ use Rattle.network.specs.Book.{Lawful, Sound}
 use Rattle.rows.specs.declared.rule.RowsRule.{RowsRule}
 use Rattle.rows.specs.Rows.{WellFormed, rule_of, rows_book, no_rows}
 
--- what a book holds as its ghost field, taken out
+-- stores that are somehow known to be well formed are so
 pub well_formed : {rules : List RowsRule} {bytes : List ℕ} → ∥ WellFormed rules bytes ∥₁ → WellFormed rules bytes
 well_formed ok = record {
   few = ∥∥₁_elim ok le_prop (λ w. w.few);
@@ -46,9 +46,9 @@ module _ (bytes : List ℕ) (rule : RowsRule) where
         good.apart j k lt h' (sym (cell_of j 255 l') ∙ e ∙ cell_of k 255 h');
   }
 
-pub rows_lawful : (rules : List RowsRule) (bytes : List ℕ) → ∥ WellFormed rules bytes ∥₁ → Lawful (rows_book rules bytes)
+pub rows_lawful : (rules : List RowsRule) (bytes : List ℕ) → WellFormed rules bytes → Lawful (rows_book rules bytes)
 rows_lawful rules bytes ok = record {
-  bounded = (well_formed ok).few;
-  sound = λ r h. sound bytes (slice_index_or rules r no_rows) ((well_formed ok).each r h).good;
+  bounded = ok.few;
+  sound = λ r h. sound bytes (slice_index_or rules r no_rows) (ok.each r h).good;
   missing = λ r h. ap (λ rule. (rule_of bytes rule).cells) (get_or_past rules r no_rows h);
 }

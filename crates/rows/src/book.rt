@@ -8,5 +8,5 @@ use crate::rule::RowsRule;
 pub struct RowsBook<'a> {
     pub rules: &'a [RowsRule],
     pub bytes: &'a [u8],
-    ghost ok: { ∥ WellFormed rules.now bytes.now ∥₁ },
+    ghost ok: { WellFormed rules.now bytes.now },
 }

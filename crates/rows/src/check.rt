@@ -25,15 +25,7 @@ impl<'a> RowsBook<'a> {
 pub fn is_well_formed(rules: &[RowsRule], bytes: &[u8]) -> bool
     ensures { Decides result (WellFormed rules.now bytes.now) }
 {
-    if rules.len() > 65535 {
-        return false;
-    }
-    for rule in rules {
-        if !is_fit(rule, bytes.len()) {
-            return false;
-        }
-    }
-    true
+    rules.len() <= 65535 && rules.iter().all(|rule| is_fit(rule, bytes.len()))
 }
 
 /// Whether the cells of a rule are good, and its rows are among so many bytes.

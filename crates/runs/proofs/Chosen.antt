@@ -9,7 +9,7 @@ use Rattle.choosers.specs.Choice.{Machine, Naming, Open, figure, no_figure}
 use Rattle.choosers.specs.declared.chooser.Figure.{Figure}
 use Rattle.runs.specs.Settle.{State, left_at, out_of, Empty}
 use Rattle.runs.specs.Figures.{figure_of, figures_of}
-use Rattle.runs.specs.Run.{Tried, Choice}
+use Rattle.runs.specs.Run.{Tried, Choice, Chosen}
 use Rattle.runs.specs.Law.{Full}
 use Rattle.runs.proofs.MoreBits.{Two, size_two, two_size, size_zero}
 use Rattle.runs.proofs.Steps.{out_keeps, set_full}
@@ -92,11 +92,6 @@ module _ (m : BookMeaning) (listed : ℕ) (sets weights : List ℕ) where
     named_within c e ne = open_within c (subst (λ (z : ℕ). Open (figures_of m listed sets weights) z) (sym e) (named_open (λ q. ne (e ∙ q))))
 
 -- what is known of a choice
-pub record Chosen (sets : List ℕ) (c v : ℕ) : Type 0 where
-  pub within : c < length sets
-  pub opened : 1 < size (left_at sets c)
-  pub there : Remains sets c v
-
 pub chosen : {C : Type 0} (k : Machine C) (naming : Naming k) {m : BookMeaning} {listed : ℕ} {x : C} {s : State} {c v : ℕ} → Choice k m listed x s c v → Chosen s.sets c v
 chosen k naming {m} {listed} {x} {s} {c} {v} h =
     let p = named_within m listed s.sets s.weights k naming x c (sym h.named) h.some in

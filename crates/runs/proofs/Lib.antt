@@ -6,4 +6,3 @@ pub mod Unique
 pub mod Chosen
 pub mod Running
 pub mod OneRun
-pub mod Starting

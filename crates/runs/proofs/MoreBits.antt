@@ -1,11 +1,10 @@
 -- More on sets as masks: what a mark adds, and how many members there are. Assumes nothing.
-use Rattle.std.proofs.Common.{◌≡◌, ℕ, zero, suc, ◌+◌, ◌*◌, ◌/◌, ◌%◌, ◌^◌, ◌<◌, ◌≤◌, Bool, true, false, cond, ◌≢◌, ◌⊎◌, List, [], ◌∷◌, ◌++◌, length, sym, refl, ap, ◌∙◌, subst, inl, inr, pow-suc, arith, length-append}
+use Rattle.std.proofs.Common.{◌≡◌, ℕ, zero, suc, ◌+◌, ◌/◌, ◌%◌, ◌^◌, ◌<◌, ◌≤◌, Bool, true, false, cond, ◌≢◌, ◌⊎◌, List, [], ◌∷◌, ◌++◌, length, sym, refl, ap, ◌∙◌, subst, inl, inr, arith, length-append}
 use lib.Bits.{bit_or, or_zero_r}
-use lib.Count.{ones, ones_in, ones_step}
 use Rattle.std.proofs.lemmas.Bool.{cases_eq, eq-eqb, ne_eqb}
 use Rattle.bits.specs.Sets.{In, in?, below, members, size}
 use Rattle.bits.proofs.Bits.{or_bit, pow_other}
-use Rattle.bits.proofs.Low.{bit_half, bit_first, low_trailing}
+use Rattle.bits.proofs.Low.{low_trailing}
 
 pub mark_only : (s v w : ℕ) → In (bit_or s (2 ^ v)) w → In s w ⊎ (w ≡ v)
 mark_only s v w h = elim (cases_eq w v) [
@@ -137,31 +136,3 @@ some_of s h = elim (cases_eq (length (below 64 s)) 0) [
 
 pub not_zero : (s : ℕ) → s < 2 ^ 64 → s ≢ 0 → ((v : ℕ) → v < 64 → In s v → ⊥) → ⊥
 not_zero s l ne h = let p = low_trailing 64 s l ne in h _ p.1 p.0.there
-
--- ---- as the machine counts
-below_half : (n s : ℕ) → length (below (suc n) s) ≡ s % 2 + length (below n (s / 2))
-below_half zero s = elim (cases_eq (s / 2 ^ 0 % 2) 1) [
-  | inl e ↦ omega (arith, below_yes 0 s e, below_zero s, below_zero (s / 2), bit_first s)
-  | inr ne ↦ omega (arith, below_no 0 s ne, below_zero s, below_zero (s / 2), bit_first s)
-]
-below_half (suc n) s =
-    let ih = below_half n s in
-    elim (cases_eq (s / 2 / 2 ^ n % 2) 1) [
-      | inl e ↦ omega (arith, below_yes (suc n) s (bit_half s n ∙ e), below_yes n (s / 2) e)
-      | inr ne ↦ omega (arith, below_no (suc n) s (λ k. ne (sym (bit_half s n) ∙ k)), below_no n (s / 2) ne)
-    ]
-
-ones_zero : ones 0 ≡ 0
-unfolding ones ones_in
-ones_zero = refl
-
-ones_below : (n s : ℕ) → s < 2 ^ n → ones s ≡ length (below n s)
-ones_below zero s h = let z : s ≡ 0 = omega arith in ap ones z ∙ ones_zero ∙ sym (below_zero s)
-ones_below (suc n) s h =
-    let p : s < 2 ^ n * 2 = rw (pow-suc 2 n) at h in
-    let ih = ones_below n (s / 2) (omega arith) in
-    omega (arith, ones_step s, below_half n s)
-
-pub ones_size : (s : ℕ) → s < 2 ^ 64 → ones s ≡ size s
-unfolding members
-ones_size s h = ones_below 64 s h

@@ -9,6 +9,7 @@ use Rattle.network.specs.Book.{BookMeaning, Lawful, Supported, Remains}
 use Rattle.network.specs.Fillings.{row_of, MeetsAll, Inside, Meetable}
 use Rattle.choosers.specs.Choice.{Machine, Naming}
 use Rattle.runs.specs.declared.line.Line.{Line}
+use Rattle.runs.specs.declared.line.Verdict.TheVariants.{Met}
 use Rattle.runs.specs.Settle.{State, left_at, cell_at, out_of, Settles, Fails}
 use Rattle.runs.specs.Run.{TryFails, TryFails.at_first, TryFails.at_last, Explores, Explores.filled, Explores.stands, Explores.goes_on, Explores.ends, Searches, Searches.fails, Searches.settled, Run, Run.ran}
 use Rattle.runs.specs.Law.{Suits, Full, Within, Closed, Marks, Settled, Ready, Fills, Right}
@@ -173,23 +174,22 @@ module _ {C : Type 0} (k : Machine C) (naming : Naming k) (m : BookMeaning) (law
   pub run_right : {x y : C} {ws ws' sets : List ℕ} {l : Line} → Run k m start listed x ws l y ws' sets → Right (Meetable m start) l
   run_right (ran {found = true} p) =
       let a = fills_of refl (searches_found m listed (length start) ready.suits k naming ready.few law refl ready.full p) in
-      record { fits = λ _. fits_of a; only = λ _. refl; unused = λ _. refl; among = λ e. absurd (omega arith); clash = λ e. absurd (omega arith); known = inl refl }
+      record { fits = λ _. fits_of a; only = λ _. refl; unused = λ _. refl; among = λ e. absurd (cc); clash = λ e. absurd (cc) }
   run_right (ran {t = t} {found = false} p) =
       let marks = searches_marks m listed (length start) ready.suits k naming p in
       let among : Subset t.used listed = λ r h. elim (marks.among r h) [ inl z ↦ absurd (has_zero r z) | inr on ↦ on ] in
       let none = searches_none m listed (length start) ready.suits k naming refl p in
       record {
-        fits = λ e. absurd (omega arith);
+        fits = λ e. absurd (cc);
         only = λ q. absurd (none q.filling q.inside (λ r h. q.meets r (among r h)));
-        unused = λ e. absurd (omega arith);
+        unused = λ e. absurd (cc);
         among = λ _. among;
         clash = λ _ q. none q.filling q.inside q.meets;
-        known = inr refl;
       }
 
-  pub run_fills : {x y : C} {ws ws' sets : List ℕ} {l : Line} → Run k m start listed x ws l y ws' sets → l.verdict ≡ 0 → Fills m start listed sets
+  pub run_fills : {x y : C} {ws ws' sets : List ℕ} {l : Line} → Run k m start listed x ws l y ws' sets → l.verdict ≡ Met → Fills m start listed sets
   run_fills (ran {found = true} p) e = fills_of refl (searches_found m listed (length start) ready.suits k naming ready.few law refl ready.full p)
-  run_fills (ran {found = false} p) e = absurd (omega arith)
+  run_fills (ran {found = false} p) e = absurd (cc)
 
 pub run_lists : {C : Type 0} {k : Machine C} {m : BookMeaning} {start : List ℕ} {listed : ℕ} {x y : C} {ws ws' sets : List ℕ} {l : Line}
     → Run k m start listed x ws l y ws' sets → l.listed ≡ listed

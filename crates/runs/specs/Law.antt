@@ -5,6 +5,7 @@ use Rattle.network.specs.Book.{BookMeaning, Supported, Remains}
 use Rattle.network.specs.Fillings.{MeetsAll, Inside, Meetable}
 use Rattle.choosers.specs.Choice.{Machine}
 use Rattle.runs.specs.declared.line.Line.{Line}
+use Rattle.runs.specs.declared.line.Verdict.TheVariants.{Met, Unmet}
 use Rattle.runs.specs.Settle.{State, Empty, cell_at, Settles, Fails}
 use Rattle.runs.specs.Run.{Run}
 
@@ -61,15 +62,14 @@ pub record Fills (m : BookMeaning) (start : List ℕ) (rules : ℕ) (sets : List
   pub left : Inside filling sets
   pub only : (c v : ℕ) → Remains sets c v → v ≡ slice_index filling c
 
--- a line is right, where Fits a says that some filling meets the rules of a: the verdict is 0 exactly if some filling meets the listed rules,
--- else it is 1, and then the rules used are among them and no filling meets these
+-- a line is right, where Fits a says that some filling meets the rules of a: the verdict is Met exactly if some filling meets the listed rules,
+-- else it is Unmet, and then the rules used are among them and no filling meets these
 pub record Right (Fits : ℕ → Type 0) (l : Line) : Type 0 where
-  pub fits : l.verdict ≡ 0 → Fits l.listed
-  pub only : Fits l.listed → l.verdict ≡ 0
-  pub unused : l.verdict ≡ 0 → l.used ≡ 0
-  pub among : l.verdict ≡ 1 → Subset l.used l.listed
-  pub clash : l.verdict ≡ 1 → Fits l.used → ⊥
-  pub known : (l.verdict ≡ 0) ⊎ (l.verdict ≡ 1)
+  pub fits : l.verdict ≡ Met → Fits l.listed
+  pub only : Fits l.listed → l.verdict ≡ Met
+  pub unused : l.verdict ≡ Met → l.used ≡ 0
+  pub among : l.verdict ≡ Unmet → Subset l.used l.listed
+  pub clash : l.verdict ≡ Unmet → Fits l.used → ⊥
 
 -- settling from s leaves t, and no settling from s leaves anything else or fails
 pub record OnlySettles (m : BookMeaning) (listed : ℕ) (s t : State) : Type 0 where

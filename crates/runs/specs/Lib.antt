@@ -1,3 +1,4 @@
+pub mod Verdict
 pub mod Settle
 pub mod Figures
 pub mod Run

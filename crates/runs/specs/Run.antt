@@ -1,10 +1,11 @@
 -- A run: tries of one place alone, and what became of them. Assumes nothing.
-use Rattle.std.specs.Prelude.{◌≡◌, ℕ, ◌^◌, Bool, true, false, cond, ◌≢◌, List, slice_set}
-use Rattle.bits.specs.Sets.{Lowest}
-use Rattle.network.specs.Book.{BookMeaning}
+use Rattle.std.specs.Prelude.{◌≡◌, ℕ, ◌^◌, ◌<◌, Bool, true, false, cond, ◌≢◌, List, length, slice_set}
+use Rattle.bits.specs.Sets.{Lowest, size}
+use Rattle.network.specs.Book.{BookMeaning, Remains}
 use Rattle.choosers.specs.Choice.{Machine}
 use Rattle.choosers.specs.declared.chooser.Event.TheVariants.{Start, Failed, Stood}
 use Rattle.runs.specs.declared.line.Line.{Line}
+use Rattle.runs.specs.declared.line.Verdict.TheVariants.{Met, Unmet}
 use Rattle.runs.specs.Settle.{State, state, left_at, out_of, Settles, Fails}
 use Rattle.runs.specs.Figures.{figures_of}
 
@@ -17,6 +18,12 @@ pub record Choice {C : Type 0} (k : Machine C) (m : BookMeaning) (listed : ℕ) 
   pub named : k.names x (figures_of m listed s.sets s.weights) ≡ c
   pub some : c ≢ 255
   pub place : Tried s.sets c v
+
+-- the cell c is open, and the place v remains there
+pub record Chosen (sets : List ℕ) (c v : ℕ) : Type 0 where
+  pub within : c < length sets
+  pub opened : 1 < size (left_at sets c)
+  pub there : Remains sets c v
 
 -- the sets with the place v alone at the cell c
 abbrev pub alone : State → ℕ → ℕ → State
@@ -56,7 +63,7 @@ pub data Searches {C : Type 0} (k : Machine C) (m : BookMeaning) (listed : ℕ) 
 
 -- the line of a run
 abbrev pub line : ℕ → Bool → ℕ → Line
-line listed found used = record { listed = listed; used = cond found 0 used; verdict = cond found 0 1 }
+line listed found used = record { listed = listed; used = cond found 0 used; verdict = cond found Met Unmet }
 
 -- a whole run, from the chooser x and the weights: the chooser is told that it begins, and no rule is used yet.
 -- It writes a line, and leaves the chooser, the weights and the sets

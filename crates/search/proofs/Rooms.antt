@@ -8,7 +8,7 @@ use Rattle.network.specs.Book.{BookMeaning}
 use Rattle.runs.specs.Law.{Full, Within}
 use Rattle.runs.proofs.MoreBits.{size_sub, size_pow}
 use Rattle.runs.proofs.Steps.{alone_within, alone_full}
-use Rattle.runs.proofs.Chosen.{Chosen}
+use Rattle.runs.specs.Run.{Chosen}
 use Rattle.search.specs.Room.{opens, Able}
 
 abbrev flag : ℕ → ℕ
@@ -73,13 +73,12 @@ room_less : (p q n w : ℕ) → p ≤ q → q * n ≤ w → p * n ≤ w
 room_less p q n w l h = let a : p * n ≤ q * n = mul-le-mul_right n l in omega arith
 
 -- ---- what a search wants, kept on its way
-pub able_sub : {m : BookMeaning} {s : List ℕ} {weights work : ℕ} (t : List ℕ) (weights' work' : ℕ) → Able m s weights work → length t ≡ length s → Full t → Within t s
-    → weights' ≡ weights → work' ≡ work → Able m t weights' work'
-able_sub {m} {s} {weights} {work} t weights' work' a e full w ew ek = record {
+pub able_sub : {m : BookMeaning} {s : List ℕ} {work : ℕ} (t : List ℕ) (work' : ℕ) → Able m s work → length t ≡ length s → Full t → Within t s
+    → work' ≡ work → Able m t work'
+able_sub {m} {s} {work} t work' a e full w ek = record {
   few = omega (arith, a.few);
   suits = rw e a.suits;
   full = full;
-  weighted = omega (arith, a.weighted);
   room = rw (ek, e) (room_less (opens t) (opens s) (length s) work (opens_sub t s e w) a.room);
 }
 
@@ -89,17 +88,16 @@ opens_alone sets c v k =
     let one : size (get_or (set sets c (2 ^ v)) c 0) ≤ 1 = omega (arith, ap size (get_or-set_same sets c (2 ^ v) 0 k.within), size_pow v) in
     opens_less (set sets c (2 ^ v)) sets c (length-set sets c (2 ^ v)) (alone_within sets c v k.within k.there) k.within one k.opened
 
-pub able_alone : {m : BookMeaning} {sets : List ℕ} {weights work c v : ℕ} (weights' work' : ℕ) → Able m sets weights work → Chosen sets c v → weights' ≡ weights
-    → work' + length sets ≡ work → Able m (set sets c (2 ^ v)) weights' work'
-able_alone {m} {sets} {weights} {work} {c} {v} weights' work' a k ew ek =
+pub able_alone : {m : BookMeaning} {sets : List ℕ} {work c v : ℕ} (work' : ℕ) → Able m sets work → Chosen sets c v
+    → work' + length sets ≡ work → Able m (set sets c (2 ^ v)) work'
+able_alone {m} {sets} {work} {c} {v} work' a k ek =
     let e : length (set sets c (2 ^ v)) ≡ length sets = length-set sets c (2 ^ v) in
     record {
       few = omega (arith, a.few);
       suits = rw e a.suits;
       full = alone_full sets c v k.within k.there.0 a.full;
-      weighted = omega (arith, a.weighted);
       room = rw e (room_rest (opens (set sets c (2 ^ v))) (opens sets) (length sets) work work' (opens_alone sets c v k) a.room ek);
     }
 
-pub frame_room : {m : BookMeaning} {sets : List ℕ} {weights work c v : ℕ} → Able m sets weights work → Chosen sets c v → length sets ≤ work
-frame_room {m} {sets} {weights} {work} {c} {v} a k = room_frame (opens (set sets c (2 ^ v))) (opens sets) (length sets) work (opens_alone sets c v k) a.room
+pub frame_room : {m : BookMeaning} {sets : List ℕ} {work c v : ℕ} → Able m sets work → Chosen sets c v → length sets ≤ work
+frame_room {m} {sets} {work} {c} {v} a k = room_frame (opens (set sets c (2 ^ v))) (opens sets) (length sets) work (opens_alone sets c v k) a.room

@@ -1,57 +1,93 @@
 //! Tries: from settled sets to a filling, or to none.
-ghost use Rattle.std.specs.Prelude.{◌≡◌, ℕ, ◌^◌, ◌<◌, ◌≤◌, true, false, length, slice_index, slice_set};
-ghost use Rattle.network.specs.Book.{Remains};
+ghost use Rattle.std.specs.Prelude.{◌≡◌, ◌^◌, ◌≤◌, true, false, length, slice_set, MatchOption};
 ghost use Rattle.runs.specs.Settle.{state, out_of};
-ghost use Rattle.runs.specs.Run.{Explores, TryStands, TryFails};
+ghost use Rattle.runs.specs.Figures.{figures_of};
+ghost use Rattle.runs.specs.Run.{Chosen, Explores, TryStands, TryFails};
+ghost use Rattle.runs.specs.Law.{Suits};
+ghost use Rattle.settling.specs.Kept.{state_of, Kept};
 ghost use Rattle.search.specs.Room.{Able};
+ghost use Rattle.search.specs.Picks.{Picks};
 
 use bits::{lowest, only, without};
 use choosers::chooser::{Chooser, Event};
-use figures::choose;
+use figures::Cells;
 use network::book::RuleBook;
-use settling::settle::settle;
+use settling::listed::Listed;
+use settling::progress::Progress;
 
 /// A place to try alone at a cell.
-#[derive(Clone, Copy)]
+#[derive(Clone, Copy, Debug, PartialEq, Eq)]
 struct Trial {
     cell: u8,
     place: u8,
 }
 
-/// The sets as they were before a try, without its place.
-fn retreat(before: &[u64], trial: Trial, sets: &mut [u64])
-    requires long { length sets.old ≡ length before.now }
-    requires within { trial.cell < length before.now }
-    requires there { Remains before.now trial.cell trial.place }
-    ensures { sets.new ≡ out_of before.now trial.cell trial.place }
+/// The try to make next: of the lowest place at the cell that the chooser names, if any is open.
+fn next_trial<B: RuleBook, C: Chooser>(
+    rules: &Listed<'_, B>,
+    chooser: &C,
+    progress: &Progress<'_>,
+) -> Option<Trial>
+    requires suits { Suits (B.RuleBook.meaning rules.now.book.now) (length progress.now.sets.now) }
+    requires few { length progress.now.sets.now ≤ 64 }
+    ensures { MatchOption result
+        (C.Chooser.meaning.names chooser.now (figures_of (B.RuleBook.meaning rules.now.book.now) rules.now.rules progress.now.sets.now progress.now.weights.now) ≡ 255)
+        (λ t. Picks C.Chooser.meaning (B.RuleBook.meaning rules.now.book.now) rules.now.rules chooser.now (state_of progress.now) t.cell t.place) }
 {
-    sets.copy_from_slice(before);
-    sets[trial.cell as usize] = without(before[trial.cell as usize], trial.place);
+    let cells = Cells {
+        book: rules.book,
+        listed: rules.rules,
+        weights: progress.weights,
+        sets: progress.sets,
+    };
+    let cell = cells.choose(chooser);
+    if cell == 255 {
+        return None;
+    }
+    let Some(place) = lowest(progress.sets[cell as usize]) else {
+        unreachable!()
+    };
+    Some(Trial { cell, place })
+}
+
+/// The sets as they were before a try, without its place.
+fn retreat(before: &[u64], trial: Trial, progress: &mut Progress<'_>)
+    requires long { length progress.old.sets.now ≡ length before.now }
+    requires chosen { Chosen before.now trial.cell trial.place }
+    ensures kept { Kept progress.old progress.new }
+    ensures back { state_of progress.new ≡ state (out_of before.now trial.cell trial.place) progress.old.used progress.old.weights.now }
+{
+    progress.sets.copy_from_slice(before);
+    progress.sets[trial.cell as usize] = without(before[trial.cell as usize], trial.place);
+}
+
+/// Keeps the sets from before a try in a frame.
+fn keep(progress: &Progress<'_>, before: &mut [u64])
+    requires { length before.old ≡ length progress.now.sets.now }
+    ensures { before.new ≡ progress.now.sets.now }
+{
+    before.copy_from_slice(progress.sets);
 }
 
 /// Tries a place alone: true if it stands to a filling.
 #[cycle(attempt_explore)]
 fn attempt<B: RuleBook, C: Chooser>(
-    book: &B,
+    rules: &Listed<'_, B>,
     chooser: &mut C,
-    listed: u64,
     trial: Trial,
     work: &mut [u64],
-    sets: &mut [u64],
-    used: &mut u64,
-    weights: &mut [u32],
+    progress: &mut Progress<'_>,
 ) -> bool
-    requires able { Able (B.RuleBook.meaning book.now) (slice_set sets.old trial.cell (2 ^ trial.place)) (length weights.old) (length work.old) }
-    requires within { trial.cell < length sets.old }
-    requires small { trial.place < 64 }
-    requires open { 2 ^ trial.place < slice_index sets.old trial.cell }
-    ensures stood { result ≡ true → TryStands C.Chooser.meaning (B.RuleBook.meaning book.now) listed chooser.old (state sets.old used.old weights.old) trial.cell trial.place chooser.new (state sets.new used.new weights.new) }
-    ensures failed { result ≡ false → TryFails C.Chooser.meaning (B.RuleBook.meaning book.now) listed chooser.old (state sets.old used.old weights.old) trial.cell trial.place chooser.new (state sets.new used.new weights.new) }
+    requires able { Able (B.RuleBook.meaning rules.now.book.now) (slice_set progress.old.sets.now trial.cell (2 ^ trial.place)) (length work.old) }
+    requires chosen { Chosen progress.old.sets.now trial.cell trial.place }
+    ensures kept { Kept progress.old progress.new }
+    ensures stood { result ≡ true → TryStands C.Chooser.meaning (B.RuleBook.meaning rules.now.book.now) rules.now.rules chooser.old (state_of progress.old) trial.cell trial.place chooser.new (state_of progress.new) }
+    ensures failed { result ≡ false → TryFails C.Chooser.meaning (B.RuleBook.meaning rules.now.book.now) rules.now.rules chooser.old (state_of progress.old) trial.cell trial.place chooser.new (state_of progress.new) }
 {
-    sets[trial.cell as usize] = only(trial.place);
-    if let Ok(()) = settle(book, listed, sets, used, weights) {
+    progress.sets[trial.cell as usize] = only(trial.place);
+    if let Ok(()) = rules.settle(progress) {
         chooser.tell(Event::Stood(trial.cell));
-        if explore(book, chooser, listed, work, sets, used, weights) {
+        if explore(rules, chooser, work, progress) {
             return true;
         }
     }
@@ -62,34 +98,25 @@ fn attempt<B: RuleBook, C: Chooser>(
 /// From settled sets to a filling (true), or to none (false). Each try keeps the sets from before it in a frame of the work buffer.
 #[cycle(attempt_explore)]
 pub(crate) fn explore<B: RuleBook, C: Chooser>(
-    book: &B,
+    rules: &Listed<'_, B>,
     chooser: &mut C,
-    listed: u64,
     work: &mut [u64],
-    sets: &mut [u64],
-    used: &mut u64,
-    weights: &mut [u32],
+    progress: &mut Progress<'_>,
 ) -> bool
-    requires { Able (B.RuleBook.meaning book.now) sets.old (length weights.old) (length work.old) }
-    ensures { Explores C.Chooser.meaning (B.RuleBook.meaning book.now) listed chooser.old (state sets.old used.old weights.old) result chooser.new (state sets.new used.new weights.new) }
+    requires { Able (B.RuleBook.meaning rules.now.book.now) progress.old.sets.now (length work.old) }
+    ensures kept { Kept progress.old progress.new }
+    ensures steps { Explores C.Chooser.meaning (B.RuleBook.meaning rules.now.book.now) rules.now.rules chooser.old (state_of progress.old) result chooser.new (state_of progress.new) }
 {
-    'tries: loop {
-        let cell = choose(book, chooser, listed, weights, sets);
-        if cell == 255 {
+    'tries: while let Some(trial) = next_trial(rules, chooser, progress) {
+        let (before, rest) = work.split_at_mut(progress.sets.len());
+        keep(progress, before);
+        if attempt(rules, chooser, trial, rest, progress) {
             return true;
         }
-        let trial = Trial {
-            cell,
-            place: lowest(sets[cell as usize]),
-        };
-        let (before, rest) = work.split_at_mut(sets.len());
-        before.copy_from_slice(sets);
-        if attempt(book, chooser, listed, trial, rest, sets, used, weights) {
-            return true;
-        }
-        retreat(before, trial, sets);
-        if let Err(_) = settle(book, listed, sets, used, weights) {
+        retreat(before, trial, progress);
+        if let Err(_) = rules.settle(progress) {
             return false;
         }
     }
+    true
 }

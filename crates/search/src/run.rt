@@ -1,37 +1,36 @@
 //! A whole run, and the line that it writes.
 ghost use Rattle.std.specs.Prelude.{◌≡◌, ℕ, ◌≤◌, length};
 ghost use Rattle.network.specs.Fillings.{Meetable};
-ghost use Rattle.runs.specs.Settle.{state};
 ghost use Rattle.runs.specs.Run.{Searches, Run};
 ghost use Rattle.runs.specs.Law.{Ready, Right, Fills, OnlyRun};
+ghost use Rattle.settling.specs.Kept.{state_of, Kept};
 ghost use Rattle.search.specs.Room.{Able};
 
 use crate::explore::explore;
 use choosers::chooser::{Chooser, Event};
 use network::book::RuleBook;
-use runs::line::Line;
-use settling::settle::settle;
+use runs::line::{Line, Verdict};
+use settling::listed::Listed;
+use settling::progress::Progress;
 
 /// Settles the starting sets, and goes on from there: true is a filling.
 fn search<B: RuleBook, C: Chooser>(
-    book: &B,
+    rules: &Listed<'_, B>,
     chooser: &mut C,
-    listed: u64,
     work: &mut [u64],
-    sets: &mut [u64],
-    used: &mut u64,
-    weights: &mut [u32],
+    progress: &mut Progress<'_>,
 ) -> bool
-    requires { Able (B.RuleBook.meaning book.now) sets.old (length weights.old) (length work.old) }
-    ensures { Searches C.Chooser.meaning (B.RuleBook.meaning book.now) listed chooser.old (state sets.old used.old weights.old) result chooser.new (state sets.new used.new weights.new) }
+    requires { Able (B.RuleBook.meaning rules.now.book.now) progress.old.sets.now (length work.old) }
+    ensures kept { Kept progress.old progress.new }
+    ensures steps { Searches C.Chooser.meaning (B.RuleBook.meaning rules.now.book.now) rules.now.rules chooser.old (state_of progress.old) result chooser.new (state_of progress.new) }
 {
-    if let Err(_) = settle(book, listed, sets, used, weights) {
+    if let Err(_) = rules.settle(progress) {
         return false;
     }
-    explore(book, chooser, listed, work, sets, used, weights)
+    explore(rules, chooser, work, progress)
 }
 
-/// A run of the listed rules from the starting sets. At verdict 0 the sets left are the filling, one place at each cell.
+/// A run of the listed rules from the starting sets; its parameters are those with which a `Runner` is asked, and stay apart for it. Where some filling meets them, the sets left are one, with one place at each cell.
 pub fn run<B: RuleBook, C: Chooser>(
     book: &B,
     chooser: &mut C,
@@ -49,21 +48,29 @@ pub fn run<B: RuleBook, C: Chooser>(
     ensures only { OnlyRun C.Chooser.meaning (B.RuleBook.meaning book.now) start.now listed chooser.old weights.old result chooser.new weights.new sets.new }
     ensures lists { result.listed ≡ listed }
     ensures right { Right (Meetable (B.RuleBook.meaning book.now) start.now) result }
-    ensures fills { result.verdict ≡ 0 → Fills (B.RuleBook.meaning book.now) start.now listed sets.new }
+    ensures fills { result.verdict ≡ Verdict.Met → Fills (B.RuleBook.meaning book.now) start.now listed sets.new }
 {
     chooser.tell(Event::Start);
     sets.copy_from_slice(start);
-    let mut used = 0;
-    if search(book, chooser, listed, work, sets, &mut used, weights) {
+    let rules = Listed {
+        book,
+        rules: listed,
+    };
+    let mut progress = Progress {
+        sets,
+        used: 0,
+        weights,
+    };
+    if search(&rules, chooser, work, &mut progress) {
         return Line {
             listed,
             used: 0,
-            verdict: 0,
+            verdict: Verdict::Met,
         };
     }
     Line {
         listed,
-        used,
-        verdict: 1,
+        used: progress.used,
+        verdict: Verdict::Unmet,
     }
 }

@@ -1,5 +1,5 @@
 -- What a Pin, a Free or a Switch comes to. Assumes nothing.
-use Rattle.std.proofs.Common.{◌≡◌, ℕ, ◌≢◌, List, Err, Result, sym, refl, subst, arith}
+use Rattle.std.proofs.Common.{◌≡◌, ℕ, List, Err, Result, sym, refl, subst, arith}
 use Rattle.network.specs.Book.{BookMeaning}
 use Rattle.choosers.specs.Choice.{Machine}
 use Rattle.runs.specs.declared.line.Line.{Line}
@@ -8,16 +8,9 @@ use Rattle.calls.specs.declared.call.Call.{Call}
 use Rattle.calls.specs.declared.refusal.Refusal.{Refusal}
 use Rattle.calls.specs.declared.refusal.Refusal.TheVariants.{Shut}
 use Rattle.calls.specs.Answers.{to_change, to_fit}
-use Rattle.calls.specs.Sheet.{Sheet, Checked, Checked.passes, Checked.lists, Checked.rules, Checked.missing, Opens, Judged.shut}
+use Rattle.calls.specs.Sheet.{Opens, Judged.shut}
 use Rattle.session.specs.declared.session.Session.{Session}
 use Rattle.session.specs.Calls.{sheet_of, Changed, FitCalled}
-
--- what the check refuses does not open
-pub checked_not : {s : Sheet} {n : ℕ} → Checked s n → n ≢ 0 → Opens s → ⊥
-checked_not (passes l r m) ne o = ne refl
-checked_not (lists x) ne (passes l r m) = x l
-checked_not (rules l g) ne (passes l' r m) = omega arith
-checked_not (missing l r x) ne (passes l' r' m) = x m
 
 pub changed_shut : {B C : Type 0} (meaning : B → BookMeaning) (s : Session B C) (call : Call) (r : Result (Unit {0}) Refusal) → r ≡ Err Shut → (Opens (sheet_of meaning s) → ⊥)
     → Changed meaning call s (to_change r) s

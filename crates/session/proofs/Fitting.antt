@@ -1,5 +1,5 @@
 -- From the runs of a Fit to what it returns. Assumes nothing.
-use Rattle.std.proofs.Common.{◌≡◌, ℕ, ◌<◌, ◌≤◌, Bool, true, false, cond, ltb, List, length, get_or, take, drop, Some, None, Option, sym, refl, ◌∙◌, subst, subst₂, arith}
+use Rattle.std.proofs.Common.{◌≡◌, ℕ, ◌<◌, ◌≤◌, ◌≢◌, Bool, true, false, cond, ltb, List, length, get_or, take, drop, Some, None, Option, is_some, sym, refl, ◌∙◌, subst, subst₂, arith}
 use Rattle.std.proofs.lemmas.List.{ext_get_or, get_or-take, length-take-le}
 use Rattle.std.proofs.lemmas.Bool.{ltb-true}
 use Rattle.bits.specs.Sets.{In}
@@ -22,6 +22,15 @@ use Rattle.calls.proofs.Promising.{first_run}
 use Rattle.opening.specs.Pins.{held, LowestByte}
 use Rattle.session.specs.declared.session.Session.{Session}
 use Rattle.session.specs.Calls.{sheet_of, lasting_of, with_lasting, table_start, table_on, Solved}
+
+-- what a test of a core says of it
+pub none_from_test : (o : Option ℕ) → is_some o ≡ false → o ≡ None
+none_from_test None e = refl
+none_from_test (Some x) e = cc
+
+pub some_from_test : (o : Option ℕ) → is_some o ≡ true → o ≢ None
+some_from_test None e z = let q : false ≡ true = e in cc
+some_from_test (Some x) e z = cc
 
 -- a pin that is held is a place of its list
 held_place : (places : ℕ) (o : Option ℕ) (v : ℕ) → held places o ≡ Some v → v < places
@@ -71,24 +80,24 @@ module _ {B C : Type 0} (meaning : B → BookMeaning) (k : Machine C) (naming : 
         → (out : Outcome (List ℕ)) → Fit (Ran k (meaning s.book) the_start) the_on (lasting_of s) (take f.lines log') out (lasting c w) → Answers out f sets
         → Comes out f (take (length the_start) bytes)
     comes_filled bytes room low (left o) r a =
-        let q : Fills (meaning s.book) the_start the_on sets = subst (Fills (meaning s.book) the_start the_on) a.2 (first_run k naming (sheet_of meaning s) law r) in
-        (a.0, a.1, subst₂ (λ (x : List ℕ) (y : ℕ). Alone x (take y bytes)) (sym a.2) (same ∙ sym the_long) (lowest_filling bytes q room low))
+        let q : Fills (meaning s.book) the_start the_on sets = subst (Fills (meaning s.book) the_start the_on) a.1 (first_run k naming (sheet_of meaning s) law r) in
+        (a.0, subst₂ (λ (x : List ℕ) (y : ℕ). Alone x (take y bytes)) (sym a.1) (same ∙ sym the_long) (lowest_filling bytes q room low))
     comes_filled bytes room low (core d) r a = a
 
-    pub solved_filled : (filling bytes : List ℕ) → f.verdict ≡ 0 → length sets ≤ length bytes
+    pub solved_filled : (filling bytes : List ℕ) → f.core ≡ None → length sets ≤ length bytes
         → ((c : ℕ) → c < length sets → LowestByte (get_or sets c 0) (get_or bytes c 0)) → drop (length sets) bytes ≡ drop (length sets) filling
         → Solved meaning k s log filling f (with_lasting s (lasting c w)) log' bytes
     solved_filled filling bytes v room low later = record {
       kept = refl;
       runs = record { out = p.out; runs = runs_are; comes = comes_filled bytes room low p.out runs_are p.answers; counted = p.inside };
-      keeps = record { rest = p.keeps; later = λ _. subst (λ (n : ℕ). drop n bytes ≡ drop n filling) same later; bytes = λ one. absurd (omega arith) };
+      keeps = record { rest = p.keeps; later = λ _. subst (λ (n : ℕ). drop n bytes ≡ drop n filling) same later; bytes = λ some. absurd (some v) };
     }
 
-    comes_clashed : (f.verdict ≡ 0 → ⊥) → (bytes : List ℕ) (out : Outcome (List ℕ)) → Answers out f sets → Comes out f bytes
+    comes_clashed : f.core ≢ None → (bytes : List ℕ) (out : Outcome (List ℕ)) → Answers out f sets → Comes out f bytes
     comes_clashed ne bytes (left o) a = absurd (ne a.0)
     comes_clashed ne bytes (core d) a = a
 
-    pub solved_clashed : (filling : List ℕ) → (f.verdict ≡ 0 → ⊥) → Solved meaning k s log filling f (with_lasting s (lasting c w)) log' filling
+    pub solved_clashed : (filling : List ℕ) → f.core ≢ None → Solved meaning k s log filling f (with_lasting s (lasting c w)) log' filling
     solved_clashed filling ne = record {
       kept = refl;
       runs = record { out = p.out; runs = runs_are; comes = comes_clashed ne (take (length the_start) filling) p.out p.answers; counted = p.inside };

@@ -1,4 +1,4 @@
-//! A session: pins, switches and Fit over any rule book and any cell chooser, and any sequence of calls on it.
+//! A session: pins, switches and Fit over any rule book and any cell chooser.
 //! Uses `bits`, `network`, `choosers`, `runs`, `search`, `cores`, `clash`, `calls` and `opening`.
 #![tactic(auto)]
 

@@ -38,26 +38,6 @@ fn are_enough(work: &[u64], log: &[Line], filling: &[u8]) -> bool
     work.len() >= 4096 && log.len() >= 450 && filling.len() >= 64
 }
 
-/// A Fit with a weight for each of 64 rules: the array is lent as one, since of a part its length is not known.
-fn fit_weighted<B: RuleBook, C: Chooser>(
-    task: &Task<'_, B>,
-    chooser: &mut C,
-    weights: &mut [u32; 64],
-    work: &mut [u64],
-    sets: &mut [u64],
-    on: u64,
-    log: &mut [Line],
-) -> Fitted
-    requires ready { Ready (B.RuleBook.meaning task.now.book.now) task.now.start.now on }
-    requires work { 4096 ≤ length work.old }
-    requires sets { length sets.old ≡ length task.now.start.now }
-    requires log { 450 ≤ length log.old }
-    ensures { Logged (Ran C.Chooser.meaning (B.RuleBook.meaning task.now.book.now) task.now.start.now) (Meetable (B.RuleBook.meaning task.now.book.now) task.now.start.now) on (lasting chooser.old weights.old) log.old
-        result (lasting chooser.new weights.new) sets.new log.new }
-{
-    fit(task, chooser, weights, work, sets, on, log)
-}
-
 impl<'a, B, C> Session<'a, B, C> {
     /// A session just made: no pins, every rule on, and 1 as the weight of each rule. It is shut where `check` refuses what it is made of.
     pub fn new(lengths: &'a [u8], book: B, chooser: C) -> Self
@@ -82,10 +62,7 @@ impl<B: RuleBook, C: Chooser> Session<'_, B, C> {
     fn opened(&self) -> Result<(), Refusal>
         ensures { MatchResult result (λ _. Opens (sheet_of B.RuleBook.meaning self.now)) (λ e. (e ≡ Refusal.Shut) × (Opens (sheet_of B.RuleBook.meaning self.now) → ⊥)) }
     {
-        match check(self.lengths, &self.book) {
-            Ok(()) => Ok(()),
-            Err(_) => Err(Refusal::Shut),
-        }
+        check(self.lengths, &self.book).map_err(|_| Refusal::Shut)
     }
 
     /// Sets a cell to one place, in the place of an earlier pin.
@@ -176,7 +153,7 @@ impl<B: RuleBook, C: Chooser> Session<'_, B, C> {
             book: &self.book,
             start,
         };
-        let fitted = fit_weighted(
+        let fitted = fit(
             &task,
             &mut self.chooser,
             &mut self.table.weights,
@@ -185,7 +162,7 @@ impl<B: RuleBook, C: Chooser> Session<'_, B, C> {
             on,
             log,
         );
-        if fitted.verdict == 0 {
+        if fitted.core.is_none() {
             write_lowest(sets, filling);
         }
         fitted

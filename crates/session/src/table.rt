@@ -1,7 +1,7 @@
 //! Pins, switches and weights.
 
 /// The place that each cell is pinned to, whether each rule is on, and the weight of each rule.
-#[derive(Clone, Copy)]
+#[derive(Clone, Copy, Debug, PartialEq, Eq)]
 pub struct Table {
     pub pins: [Option<u8>; 64],
     pub switches: [bool; 64],

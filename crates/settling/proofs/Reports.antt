@@ -1,42 +1,54 @@
 -- Reports, one after another. Assumes nothing.
-use Rattle.std.proofs.Common.{◌≡◌, ℕ, ◌+◌, ◌≤◌, Bool, true, false, ◌||◌, ◌≢◌, List, sym, refl, ap, ◌∙◌, subst, arith}
-use mathlib.Core.Path.{subst₃}
+use Rattle.std.proofs.Common.{◌≡◌, ℕ, ◌+◌, ◌≤◌, Bool, true, false, ◌||◌, ◌≢◌, length, sym, refl, ap, ◌∙◌, subst, subst₂, arith}
 use Rattle.std.proofs.lemmas.Bool.{false≢true, true≢false}
 use Rattle.runs.specs.Settle.{State, total, Turns}
 use Rattle.runs.proofs.Turning.{turns_more}
-use Rattle.settling.specs.Report.{Report, Leads}
+use Rattle.settling.specs.declared.progress.Progress.{Progress}
+use Rattle.settling.specs.Kept.{state_of, Kept}
+use Rattle.settling.specs.Report.{Report}
 
-pub report_none : (s : List ℕ) → Report false s s
+pub kept_none : (p : Progress) → Kept p p
+kept_none p = record { sets = refl; weights = refl; cells = refl; rules = refl }
+
+pub kept_more : {a b c : Progress} → Kept a b → Kept b c → Kept a c
+kept_more p q = record { sets = p.sets ∙ q.sets; weights = p.weights ∙ q.weights; cells = q.cells ∙ p.cells; rules = q.rules ∙ p.rules }
+
+-- the same from a progress with other contents in the same buffers
+pub kept_from : {a b c : Progress} → Kept b c → a.sets.ghost_name ≡ b.sets.ghost_name → a.weights.ghost_name ≡ b.weights.ghost_name
+    → length b.sets.now ≡ length a.sets.now → length b.weights.now ≡ length a.weights.now → Kept a c
+kept_from k s w n m = record { sets = s ∙ k.sets; weights = w ∙ k.weights; cells = k.cells ∙ n; rules = k.rules ∙ m }
+
+pub report_none : (s : State) → Report false s s
 report_none s = record { same = λ _. refl; less = λ e. absurd (false≢true e) }
 
-pub report_le : {b : Bool} {s t : List ℕ} → Report b s t → total t ≤ total s
+pub report_le : {b : Bool} {s t : State} → Report b s t → total t.sets ≤ total s.sets
 report_le {b} {s} {t} r = go b r
   where
-    go : (b : Bool) → Report b s t → total t ≤ total s
+    go : (b : Bool) → Report b s t → total t.sets ≤ total s.sets
     go true r = let h = r.less refl in omega arith
     go false r = let h = ap total (r.same refl) in omega arith
 
-pub report_more : (a b : Bool) {s t u : List ℕ} → Report a s t → Report b t u → Report (a || b) s u
+pub report_more : (a b : Bool) {s t u : State} → Report a s t → Report b t u → Report (a || b) s u
 report_more true b {s} {t} {u} p q = record { same = λ e. absurd (true≢false e); less = λ _. let h = p.less refl in omega (arith, report_le q) }
 report_more false b {s} {t} {u} p q = record { same = λ e. q.same e ∙ p.same refl; less = λ e. let h = q.less e in omega (arith, report_le p) }
 
-pub report_differs : {s t : List ℕ} → Report true s t → t ≢ s
+pub report_differs : {s t : State} → Report true s t → t.sets ≢ s.sets
 report_differs r e = let h = r.less refl in omega (arith, ap total e)
-
--- where two ways of a turn meet: the values as the meet has them
-pub meets_more : {R : ℕ → State → State → Type 0} {n : ℕ} {s x y z : List ℕ} {i j k l : ℕ} {a b d : Bool}
-    → Leads (Turns R n) s i x j → Report a s x → Leads (R n) x j y k → Report b x y
-    → z ≡ y → l ≡ k → d ≡ (a || b) → Leads (Turns R (n + 1)) s i z l × Report d s z
-meets_more {R} {n} {s} {x} {y} {z} {i} {j} {k} {l} {a} {b} {d} p q f h ez el ed =
-    subst₃ (λ (z : List ℕ) (l : ℕ) (d : Bool). Leads (Turns R (n + 1)) s i z l × Report d s z) (sym ez) (sym el) (sym ed)
-    (λ w. turns_more (p w) (f w), report_more a b q h)
-
-pub meets_same : {R : ℕ → State → State → Type 0} {n : ℕ} {s x z : List ℕ} {i j l : ℕ} {a d : Bool}
-    → Leads (Turns R n) s i x j → Report a s x → Leads (R n) x j x j
-    → z ≡ x → l ≡ j → d ≡ a → Leads (Turns R (n + 1)) s i z l × Report d s z
-meets_same {R} {n} {s} {x} {z} {i} {j} {l} {a} {d} p q f ez el ed =
-    subst₃ (λ (z : List ℕ) (l : ℕ) (d : Bool). Leads (Turns R (n + 1)) s i z l × Report d s z) (sym ez) (sym el) (sym ed)
-    (λ w. turns_more (p w) (f w), q)
 
 pub turns_all : {R : ℕ → State → State → Type 0} {s t : State} (n k : ℕ) → n ≡ k → Turns R n s t → Turns R k s t
 turns_all {R} {s} {t} n k e p = subst (λ (j : ℕ). Turns R j s t) e p
+
+-- where two ways of a turn meet: the values as the meet has them
+pub meets_more : {R : ℕ → State → State → Type 0} {n : ℕ} {p q r z : Progress} {a b d : Bool}
+    → Turns R n (state_of p) (state_of q) → Report a (state_of p) (state_of q) → Kept p q → R n (state_of q) (state_of r) → Report b (state_of q) (state_of r) → Kept q r
+    → z ≡ r → d ≡ (a || b) → Turns R (n + 1) (state_of p) (state_of z) × Report d (state_of p) (state_of z) × Kept p z
+meets_more {R} {n} {p} {q} {r} {z} {a} {b} {d} t s k f h l ez ed =
+    subst₂ (λ (z : Progress) (d : Bool). Turns R (n + 1) (state_of p) (state_of z) × Report d (state_of p) (state_of z) × Kept p z) (sym ez) (sym ed)
+    (turns_more t f, report_more a b s h, kept_more k l)
+
+pub meets_same : {R : ℕ → State → State → Type 0} {n : ℕ} {p q z : Progress} {a d : Bool}
+    → Turns R n (state_of p) (state_of q) → Report a (state_of p) (state_of q) → Kept p q → R n (state_of q) (state_of q)
+    → z ≡ q → d ≡ a → Turns R (n + 1) (state_of p) (state_of z) × Report d (state_of p) (state_of z) × Kept p z
+meets_same {R} {n} {p} {q} {z} {a} {d} t s k f ez ed =
+    subst₂ (λ (z : Progress) (d : Bool). Turns R (n + 1) (state_of p) (state_of z) × Report d (state_of p) (state_of z) × Kept p z) (sym ez) (sym ed)
+    (turns_more t f, s, k)

@@ -11,12 +11,12 @@ use Rattle.network.specs.Book.{BookMeaning, Supported, Remains}
 use Rattle.runs.specs.Settle.{Turns, Turns.none, Turns.more, State, state, cell_at, Lost, Empty, total, out_of, weighed, Revises, Revises.absent, Revises.kept, Revises.removed, Empties, Empties.emptied}
 use Rattle.runs.proofs.MoreBits.{not_zero}
 use Rattle.runs.proofs.Steps.{out_total, out_within}
-use Rattle.settling.specs.Report.{Report, Leads, Spends}
+use Rattle.settling.specs.Report.{Report}
 
 -- the rule r at position i has the cell c, and the place v is revised there
-module _ (m : BookMeaning) (r i v : ℕ) (s : List ℕ) (u c : ℕ) (at : c ≡ cell_at m r i) (small : v < 64) (within : cell_at m r i < length s) where
-  pub absent_at : ((v < 64) × In (get_or s c 0) v → ⊥) → Leads (Revises m r i v) s u s u
-  absent_at h w = absent (λ k. h (subst (λ (x : ℕ). Remains s x v) (sym at) k))
+module _ (m : BookMeaning) (r i v : ℕ) (s : List ℕ) (u c : ℕ) (w : List ℕ) (at : c ≡ cell_at m r i) (small : v < 64) (within : cell_at m r i < length s) where
+  pub absent_at : ((v < 64) × In (get_or s c 0) v → ⊥) → Revises m r i v (state s u w) (state s u w)
+  absent_at h = absent (λ k. h (subst (λ (x : ℕ). Remains s x v) (sym at) k))
 
   lost_at : In (get_or s c 0) v → (Supported (m.rule r) i v s → ⊥) → Lost m r i v s
   lost_at h n = record { there = (small, subst (λ (x : ℕ). In (get_or s x 0) v) at h); unsupported = n }
@@ -28,19 +28,19 @@ module _ (m : BookMeaning) (r i v : ℕ) (s : List ℕ) (u c : ℕ) (at : c ≡ 
     left_is : get_or (set s c rest) (cell_at m r i) 0 ≡ rest
     left_is = ap (λ (x : ℕ). get_or (set s x rest) (cell_at m r i) 0) at ∙ get_or-set_same s (cell_at m r i) rest 0 within
 
-    pub removed_at : rest < 2 ^ 64 → rest ≢ 0 → Leads (Revises m r i v) s u (set s c rest) used'
-    removed_at fits ne w =
+    pub removed_at : rest < 2 ^ 64 → rest ≢ 0 → Revises m r i v (state s u w) (state (set s c rest) used' w)
+    removed_at fits ne =
         let some : Empty (out_of s (cell_at m r i) v) (cell_at m r i) → ⊥ = λ none. not_zero rest fits ne (λ x l k.
         none x (l, subst (λ (t : List ℕ). In (get_or t (cell_at m r i) 0) x) (sym out_is) (subst (λ (y : ℕ). In y x) (sym left_is) k))) in
         subst₂ (λ (t : List ℕ) (y : ℕ). Revises m r i v (state s u w) (state t y w)) out_is (sym f) (removed (lost_at h n) some)
 
-    pub emptied_at : rest ≡ 0 → Spends (Empties m r i v) r s u (set s c rest) used'
-    emptied_at z w =
+    pub emptied_at : rest ≡ 0 → Empties m r i v (state s u w) (state (set s c rest) used' (weighed r w))
+    emptied_at z =
         let none : Empty (out_of s (cell_at m r i) v) (cell_at m r i) = λ x k.
         has_zero x (subst (λ (y : ℕ). In y x) (ap (λ (t : List ℕ). get_or t (cell_at m r i) 0) out_is ∙ left_is ∙ z) k.1) in
         subst₂ (λ (t : List ℕ) (y : ℕ). Empties m r i v (state s u w) (state t y (weighed r w))) out_is (sym f) (emptied (lost_at h n) none)
 
-    pub report_at : Report true s (set s c rest)
+    pub report_at : Report true (state s u w) (state (set s c rest) used' w)
     report_at = record {
       same = λ q. absurd (true≢false q);
       less = λ _. subst (λ (t : List ℕ). total t < total s) out_is (out_total s (cell_at m r i) v within (subst (λ (x : ℕ). In (get_or s x 0) v) at h));

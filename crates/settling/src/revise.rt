@@ -1,52 +1,16 @@
 //! Revisions: of a place, of the places at a position, and of a rule's positions.
-ghost use Rattle.std.specs.Prelude.{◌≡◌, ℕ, ◌-◌, ◌<◌, ◌≤◌, List, length, MatchResult};
+ghost use Rattle.std.specs.Prelude.{◌≡◌, ℕ, ◌-◌, ◌<◌, ◌≤◌, length, Decides, MatchResult};
 ghost use Rattle.bits.specs.Sets.{In};
+ghost use Rattle.network.specs.Book.{Supported};
 ghost use Rattle.runs.specs.Settle.{cell_at, Revises, Empties, Position, PositionFails, Takes, TakesFails};
 ghost use Rattle.runs.specs.Law.{Suits};
-ghost use Rattle.settling.specs.Report.{Report, Leads, Spends};
+ghost use Rattle.settling.specs.Kept.{state_of, Kept};
+ghost use Rattle.settling.specs.Report.{Report};
 
+use crate::listed::{Emptied, Listed};
+use crate::progress::Progress;
 use bits::{has, with, without};
 use network::book::RuleBook;
-
-/// Settling fails: this rule emptied a cell.
-#[derive(Clone, Copy)]
-pub struct Emptied {
-    pub rule: u16,
-}
-
-/// Removes a place that remains without support, and marks the rule used; says whether it did.
-fn revise_place<B: RuleBook>(
-    book: &B,
-    rule: u16,
-    position: u8,
-    cell: u8,
-    place: u8,
-    sets: &mut [u64],
-    used: &mut u64,
-) -> Result<bool, Emptied>
-    requires few { rule < 64 }
-    requires small { place < 64 }
-    requires there { cell ≡ cell_at (B.meaning book.now) rule position }
-    requires within { cell < length sets.old }
-    ensures { MatchResult result
-        (λ removed. Leads (Revises (B.meaning book.now) rule position place) sets.old used.old sets.new used.new × Report removed sets.old sets.new)
-        (λ e. (e.rule ≡ rule) × Spends (Empties (B.meaning book.now) rule position place) rule sets.old used.old sets.new used.new) }
-{
-    let left = sets[cell as usize];
-    if !has(left, place) {
-        return Ok(false);
-    }
-    if book.supported(rule, position, place, sets) {
-        return Ok(false);
-    }
-    let rest = without(left, place);
-    sets[cell as usize] = rest;
-    *used = with(*used, rule as u8);
-    if rest == 0 {
-        return Err(Emptied { rule });
-    }
-    Ok(true)
-}
 
 /// One past the highest of a set of places, 0 where it is empty.
 fn past_highest(places: u64) -> u8
@@ -57,44 +21,89 @@ fn past_highest(places: u64) -> u8
     64 - places.leading_zeros() as u8
 }
 
-/// The places at one position, from the lowest; says whether any was removed. Those past the highest that remains are not looked at.
-fn revise_position<B: RuleBook>(
-    book: &B,
-    rule: u16,
-    position: u8,
-    sets: &mut [u64],
-    used: &mut u64,
-) -> Result<bool, Emptied>
-    requires few { rule < 64 }
-    requires within { cell_at (B.meaning book.now) rule position < length sets.old }
-    ensures { MatchResult result
-        (λ removed. Leads (Position (B.meaning book.now) rule position) sets.old used.old sets.new used.new × Report removed sets.old sets.new)
-        (λ e. (e.rule ≡ rule) × Spends (PositionFails (B.meaning book.now) rule position) rule sets.old used.old sets.new used.new) }
-{
-    let cell = book.cell(rule, position);
-    let mut removed = false;
-    for place in 0..past_highest(sets[cell as usize]) {
-        removed |= revise_place(book, rule, position, cell, place, sets, used)?;
+// `rule < 64` and `Suits` stay clauses: a book numbers its rules by 16 bits, and the sets that have to suit it are in another struct.
+impl<B: RuleBook> Listed<'_, B> {
+    /// Whether a place at a position of a rule has support.
+    fn has_support(&self, rule: u16, position: u8, place: u8, progress: &Progress<'_>) -> bool
+        ensures { Decides result (Supported ((B.meaning self.now.book.now).rule rule) position place progress.now.sets.now) }
+    {
+        self.book.supported(rule, position, place, progress.sets)
     }
-    Ok(removed)
-}
 
-/// The positions of one rule, in order; says whether any place was removed.
-pub(crate) fn revise_rule<B: RuleBook>(
-    book: &B,
-    rule: u16,
-    sets: &mut [u64],
-    used: &mut u64,
-) -> Result<bool, Emptied>
-    requires few { rule < 64 }
-    requires suits { Suits (B.meaning book.now) (length sets.old) }
-    ensures { MatchResult result
-        (λ removed. Leads (Takes (B.meaning book.now) rule) sets.old used.old sets.new used.new × Report removed sets.old sets.new)
-        (λ e. (e.rule ≡ rule) × Spends (TakesFails (B.meaning book.now) rule) rule sets.old used.old sets.new used.new) }
-{
-    let mut removed = false;
-    for position in 0..book.width(rule) {
-        removed |= revise_position(book, rule, position, sets, used)?;
+    /// Removes a place that remains without support, and marks the rule used; says whether it did. A rule that empties a cell weighs more.
+    fn revise_place(
+        &self,
+        rule: u16,
+        position: u8,
+        cell: u8,
+        place: u8,
+        progress: &mut Progress<'_>,
+    ) -> Result<bool, Emptied>
+        requires few { rule < 64 }
+        requires small { place < 64 }
+        requires there { cell ≡ cell_at (B.meaning self.now.book.now) rule position }
+        requires within { cell < length progress.old.sets.now }
+        ensures kept { Kept progress.old progress.new }
+        ensures steps { MatchResult result
+            (λ removed. Revises (B.meaning self.now.book.now) rule position place (state_of progress.old) (state_of progress.new) × Report removed (state_of progress.old) (state_of progress.new))
+            (λ e. (e.rule ≡ rule) × Empties (B.meaning self.now.book.now) rule position place (state_of progress.old) (state_of progress.new)) }
+    {
+        let left = progress.sets[cell as usize];
+        if !has(left, place) {
+            return Ok(false);
+        }
+        if self.has_support(rule, position, place, progress) {
+            return Ok(false);
+        }
+        let rest = without(left, place);
+        progress.sets[cell as usize] = rest;
+        progress.used = with(progress.used, rule as u8);
+        if rest == 0 {
+            progress.weigh(rule);
+            return Err(Emptied { rule });
+        }
+        Ok(true)
     }
-    Ok(removed)
+
+    /// The places at one position, from the lowest; says whether any was removed. Those past the highest that remains are not looked at.
+    fn revise_position(
+        &self,
+        rule: u16,
+        position: u8,
+        progress: &mut Progress<'_>,
+    ) -> Result<bool, Emptied>
+        requires few { rule < 64 }
+        requires within { cell_at (B.meaning self.now.book.now) rule position < length progress.old.sets.now }
+        ensures kept { Kept progress.old progress.new }
+        ensures steps { MatchResult result
+            (λ removed. Position (B.meaning self.now.book.now) rule position (state_of progress.old) (state_of progress.new) × Report removed (state_of progress.old) (state_of progress.new))
+            (λ e. (e.rule ≡ rule) × PositionFails (B.meaning self.now.book.now) rule position (state_of progress.old) (state_of progress.new)) }
+    {
+        let cell = self.book.cell(rule, position);
+        let mut removed = false;
+        for place in 0..past_highest(progress.sets[cell as usize]) {
+            removed |= self.revise_place(rule, position, cell, place, progress)?;
+        }
+        Ok(removed)
+    }
+
+    /// The positions of one rule, in order; says whether any place was removed.
+    pub(crate) fn revise_rule(
+        &self,
+        rule: u16,
+        progress: &mut Progress<'_>,
+    ) -> Result<bool, Emptied>
+        requires few { rule < 64 }
+        requires suits { Suits (B.meaning self.now.book.now) (length progress.old.sets.now) }
+        ensures kept { Kept progress.old progress.new }
+        ensures steps { MatchResult result
+            (λ removed. Takes (B.meaning self.now.book.now) rule (state_of progress.old) (state_of progress.new) × Report removed (state_of progress.old) (state_of progress.new))
+            (λ e. (e.rule ≡ rule) × TakesFails (B.meaning self.now.book.now) rule (state_of progress.old) (state_of progress.new)) }
+    {
+        let mut removed = false;
+        for position in 0..self.book.width(rule) {
+            removed |= self.revise_position(rule, position, progress)?;
+        }
+        Ok(removed)
+    }
 }

@@ -21,6 +21,7 @@ fn first<T>(items: &[T], count: usize) -> &[T]
 }
 
 /// The length of each cell's list.
+// Stores and extent stay two: the host keeps the stores that it lends, and Load gives the extent beside them.
 pub fn lengths<'a>(stores: &'a Stores<'_>, extent: Extent) -> &'a [u8]
     ensures part { result.now ≡ take extent.cells stores.now.lengths.now }
     ensures means { (s : Sheet) → Holds (held stores.now) extent s → result.now ≡ map length s.lists }

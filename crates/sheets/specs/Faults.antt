@@ -1,14 +1,12 @@
 -- What each fault of a sheet file says: its number, its layer and its offset. Assumes nothing.
 use Rattle.std.specs.Prelude.{ℕ}
 use Rattle.formulas.specs.Faults.{number as flaw_number}
+use Rattle.sheets.specs.declared.fault.Layer.{Layer}
+use Rattle.sheets.specs.declared.fault.Layer.TheVariants.{Field as InField, Rule as InRule, Formula as InFormula}
 use Rattle.sheets.specs.declared.fault.RuleFault.{RuleFault}
 use Rattle.sheets.specs.declared.fault.RuleFault.TheVariants.{List, Rows, Formula}
 use Rattle.sheets.specs.declared.fault.LoadFault.{LoadFault}
 use Rattle.sheets.specs.declared.fault.LoadFault.TheVariants.{Cut, Tag, Many, Size, Rule}
-
--- the layers of a file
-pub data Layer : Type 0 where
-  field rule formula : Layer
 
 abbrev pub rule_number : RuleFault → ℕ
 rule_number (List k) = 3
@@ -16,9 +14,9 @@ rule_number (Rows k) = 5
 rule_number (Formula f) = flaw_number f.flaw
 
 abbrev pub rule_layer : RuleFault → Layer
-rule_layer (List k) = rule
-rule_layer (Rows k) = rule
-rule_layer (Formula f) = formula
+rule_layer (List k) = InRule
+rule_layer (Rows k) = InRule
+rule_layer (Formula f) = InFormula
 
 abbrev pub rule_offset : RuleFault → ℕ
 rule_offset (List k) = k
@@ -33,10 +31,10 @@ number Size = 10
 number (Rule f) = rule_number f
 
 abbrev pub layer : LoadFault → Layer
-layer (Cut k) = field
-layer (Tag k) = field
-layer (Many k) = field
-layer Size = field
+layer (Cut k) = InField
+layer (Tag k) = InField
+layer (Many k) = InField
+layer Size = InField
 layer (Rule f) = rule_layer f
 
 abbrev pub offset : LoadFault → ℕ

@@ -3,12 +3,11 @@ ghost use Rattle.std.specs.Prelude.{◌≡◌};
 ghost use Rattle.sheets.specs.declared.fault.RuleFault.TheVariants.{Formula};
 ghost use Rattle.sheets.specs.declared.fault.LoadFault.TheVariants.{Rule};
 ghost use Rattle.sheets.specs.Faults.{rule_number, rule_offset, rule_layer, number, layer, offset};
-ghost use Rattle.sheets.specs.Layers.{layer_named};
 
 use formulas::fault::FormulaFault;
 
 /// The layer of a file that a fault belongs to.
-#[derive(Clone, Copy)]
+#[derive(Clone, Copy, Debug, PartialEq, Eq)]
 pub enum Layer {
     Field,
     Rule,
@@ -16,7 +15,7 @@ pub enum Layer {
 }
 
 /// A fault in the content of a field; the number is the byte of the file where it is.
-#[derive(Clone, Copy)]
+#[derive(Clone, Copy, Debug, PartialEq, Eq)]
 pub enum RuleFault {
     /// A cell's list outside its limits, or with part of a number.
     List(usize),
@@ -27,7 +26,7 @@ pub enum RuleFault {
 }
 
 /// A fault of a sheet file; the number is the byte of the file where it is.
-#[derive(Clone, Copy)]
+#[derive(Clone, Copy, Debug, PartialEq, Eq)]
 pub enum LoadFault {
     /// A field that is cut, or no end field.
     Cut(usize),
@@ -43,6 +42,7 @@ pub enum LoadFault {
 
 impl RuleFault {
     /// The number that stands for it.
+    // Hosts are promised these numbers.
     pub fn number(self) -> u8
         ensures { result ≡ rule_number self }
     {
@@ -55,11 +55,10 @@ impl RuleFault {
 
     /// Its layer.
     pub fn layer(self) -> Layer
-        ensures { layer_named result ≡ rule_layer self }
+        ensures { result ≡ rule_layer self }
     {
         match self {
-            RuleFault::List(_) => Layer::Rule,
-            RuleFault::Rows(_) => Layer::Rule,
+            RuleFault::List(_) | RuleFault::Rows(_) => Layer::Rule,
             RuleFault::Formula(_) => Layer::Formula,
         }
     }
@@ -69,8 +68,7 @@ impl RuleFault {
         ensures { result ≡ rule_offset self }
     {
         match self {
-            RuleFault::List(offset) => offset,
-            RuleFault::Rows(offset) => offset,
+            RuleFault::List(offset) | RuleFault::Rows(offset) => offset,
             RuleFault::Formula(fault) => fault.offset,
         }
     }
@@ -78,6 +76,7 @@ impl RuleFault {
 
 impl LoadFault {
     /// The number that stands for it.
+    // Hosts are promised these numbers.
     pub fn number(self) -> u8
         ensures { result ≡ number self }
     {
@@ -92,13 +91,11 @@ impl LoadFault {
 
     /// Its layer.
     pub fn layer(self) -> Layer
-        ensures { layer_named result ≡ layer self }
+        ensures { result ≡ layer self }
     {
         match self {
-            LoadFault::Cut(_) => Layer::Field,
-            LoadFault::Tag(_) => Layer::Field,
-            LoadFault::Many(_) => Layer::Field,
-            LoadFault::Size => Layer::Field,
+            LoadFault::Cut(_) | LoadFault::Tag(_) | LoadFault::Many(_) | LoadFault::Size =>
+                Layer::Field,
             LoadFault::Rule(fault) => fault.layer(),
         }
     }
@@ -108,9 +105,7 @@ impl LoadFault {
         ensures { result ≡ offset self }
     {
         match self {
-            LoadFault::Cut(offset) => offset,
-            LoadFault::Tag(offset) => offset,
-            LoadFault::Many(offset) => offset,
+            LoadFault::Cut(offset) | LoadFault::Tag(offset) | LoadFault::Many(offset) => offset,
             LoadFault::Size => 0,
             LoadFault::Rule(fault) => fault.offset(),
         }

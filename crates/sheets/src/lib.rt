@@ -3,3 +3,4 @@
 
 pub mod fault;
 pub mod stores;
+pub mod tag;

@@ -32,7 +32,8 @@ pub struct Stores<'a> {
 }
 
 /// How much of each store a sheet takes.
-#[derive(Clone, Copy)]
+// Lengths beside the stores and no collections: hosts lend stores of published sizes.
+#[derive(Clone, Copy, Debug, Default, PartialEq, Eq)]
 pub struct Extent {
     pub cells: usize,
     pub rules: usize,

@@ -1,38 +1,24 @@
-//! Writes text into a vector of bytes. Uses `formulas` for what a number's text is.
+//! What several texts are made of: the line of a fault, and parts of slices. Uses `formulas` for what a number's text is.
 #![tactic(auto)]
 
-ghost use Rattle.std.specs.Prelude.{◌≡◌, ◌++◌, OnOk};
-ghost use Rattle.formulas.specs.Tree.{numeral, number_text};
+ghost use Rattle.std.specs.Prelude.{◌≡◌, ◌++◌, take, drop, OnOk, string_bytes};
+ghost use Rattle.text.specs.Text.{fault_text};
 
 use std::alloc::AllocError;
 
-/// Appends some bytes.
-pub fn push_bytes(out: &mut Vec<u8>, bytes: &[u8]) -> Result<(), AllocError>
-    ensures { OnOk result (out.new.items ≡ out.old.items ++ bytes.now) }
+/// The line of a fault: `FAULT`, its number and its offset.
+#[tactic(auto, using(crate::proofs::Decimals::decimal_numeral))]
+pub fn push_fault(out: &mut String, number: u8, offset: usize) -> Result<(), AllocError>
+    ensures { OnOk result (string_bytes out.new ≡ string_bytes out.old ++ fault_text number offset) }
 {
-    out.extend_from_slice(bytes)
+    writeln!(out, "FAULT {number} {offset}")
 }
 
-/// Appends a number's digits, without a leading zero.
-pub fn push_digits(out: &mut Vec<u8>, n: u64) -> Result<(), AllocError>
-    ensures { OnOk result (out.new.items ≡ out.old.items ++ numeral n) }
+/// So many items from a place on, fewer where there are not so many.
+pub fn part<T>(items: &[T], from: usize, count: usize) -> &[T]
+    ensures { result.now ≡ take count (drop from items.now) }
 {
-    let last = b'0' + (n % 10) as u8;
-    if n < 10 {
-        return push_bytes(out, &[last]);
-    }
-    push_digits(out, n / 10)?;
-    push_bytes(out, &[last])
-}
-
-/// Appends a number's digits, after a minus if it is below 0.
-pub fn push_number(out: &mut Vec<u8>, n: i32) -> Result<(), AllocError>
-    ensures { OnOk result (out.new.items ≡ out.old.items ++ number_text n) }
-{
-    let digits = u64::from(n.unsigned_abs());
-    if n >= 0 {
-        return push_digits(out, digits);
-    }
-    push_bytes(out, b"-")?;
-    push_digits(out, digits)
+    let from = items.len().min(from);
+    let count = count.min(items.len() - from);
+    &items[from..from + count]
 }

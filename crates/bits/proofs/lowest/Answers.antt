@@ -1,10 +1,5 @@
-use Rattle.std.proofs.Common.{ap, ◌∙◌}
-use lib.Count.{count_trailing_zeros}
-use Rattle.bits.proofs.Low.{low_trailing, trailing_zero}
+use Rattle.bits.proofs.Low.{low_trailing}
 use Rattle.bits.proofs.lowest.Goals as goal
 
-pub returns : goal.returns
-returns c = record {
-  some = λ ne. low_trailing 64 c.args.set c.ranges.set.fits ne;
-  none = λ e. ap (count_trailing_zeros 64) e ∙ trailing_zero 64;
-}
+pub returns-clause-is : goal.returns-clause-is
+returns-clause-is c = low_trailing 64 c.args.set c.ranges.set.fits c.if-set-eq0.false

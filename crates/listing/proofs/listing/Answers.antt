@@ -1,5 +1,5 @@
 use Rattle.std.proofs.Common.{◌++◌, length, vec_items, ap, ◌∙◌}
-use Rattle.text.proofs.Appends.{made_so, after}
+use Rattle.listing.proofs.Texts.{made_so, after}
 use Rattle.sheets.specs.Stored.{held}
 use Rattle.listing.specs.Listing.{numbered, cell_line, list_in, rows_line, field_of, formula_lines}
 use Rattle.listing.proofs.Stored.{all_fields, file_fields, few, listing_same}

@@ -36,7 +36,7 @@ returns g c =
             sheet = same_sheet meaning s t (changed_kept q);
             book = (changed_kept q).1;
             makes = λ h a. made_changed meaning k s t h b _ call w.pin.result w.in-Pin.is (λ e. let z : ◌≡◌ {A = ℕ} 0 1 = cc in omega arith) a
-                (untouched b m _ w.step-is) (w.step2-is ∙ w.of_change-step.ensures) q;
+                (untouched b m _ w.step-is) (w.step2-is ∙ w.from-step.ensures) q;
           }
       | in-Free w ↦
           let call = Free w.in-Free.cell in
@@ -45,7 +45,7 @@ returns g c =
             sheet = same_sheet meaning s t (changed_kept q);
             book = (changed_kept q).1;
             makes = λ h a. made_changed meaning k s t h b _ call w.free.result w.in-Free.is (λ e. let z : ◌≡◌ {A = ℕ} 0 1 = cc in omega arith) a
-                (untouched b m _ w.step-is) (w.step2-is ∙ w.of_change-step-in-Free.ensures) q;
+                (untouched b m _ w.step-is) (w.step2-is ∙ w.from-step-in-Free.ensures) q;
           }
       | in-Switch w ↦
           let call = Switch w.in-Switch.rule w.in-Switch.on in
@@ -54,7 +54,7 @@ returns g c =
             sheet = same_sheet meaning s t (changed_kept q);
             book = (changed_kept q).1;
             makes = λ h a. made_changed meaning k s t h b _ call w.switch.result w.in-Switch.is (λ e. let z : ◌≡◌ {A = ℕ} 0 1 = cc in omega arith) a
-                (untouched b m _ w.step-is) (w.step2-is ∙ w.of_change-step-in-Switch.ensures) q;
+                (untouched b m _ w.step-is) (w.step2-is ∙ w.from-step-in-Switch.ensures) q;
           }
       | in-Fit w ↦
           let lw = w.deref_mut.ensures.len in
@@ -65,7 +65,7 @@ returns g c =
           record {
             sheet = same_sheet meaning s t (fit_kept meaning k s t q);
             book = (fit_kept meaning k s t q).1;
-            makes = λ h a. made_fit meaning k s t h b _ w.fit.result w.in-Fit.is a (ap (λ (x : Step). x.call) w.step-is) (w.step2-is ∙ w.of_fit-step.ensures)
+            makes = λ h a. made_fit meaning k s t h b _ w.fit.result w.in-Fit.is a (ap (λ (x : Step). x.call) w.step-is) (w.step2-is ∙ w.from-step-in-Fit.ensures)
                 lw ll lf w.deref_mut.ensures.value w.deref_mut-in-Fit.ensures.value w.deref_mut-in-Fit-2.ensures.value
                 (ap (λ (x : Step). vec_items x.buffers.work) w.step-is ∙ with_items_is b.buffers.work w.fit.new.work (w.fit.auto.work ∙ lw))
                 (ap (λ (x : Step). vec_items x.buffers.log) w.step-is ∙ with_items_is b.buffers.log w.fit.new.log (w.fit.auto.log ∙ ll))

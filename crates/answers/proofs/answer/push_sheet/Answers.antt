@@ -1,4 +1,4 @@
-use Rattle.text.proofs.Appends.{made_so}
+use Rattle.answers.proofs.Telling.{made_so}
 use Rattle.sheets.specs.Stored.{held}
 use Rattle.sheet_books.specs.Books.{lent, book_of}
 use Rattle.answers.proofs.Stating.{sheet_text}

@@ -1,13 +1,12 @@
 use Rattle.std.proofs.Common.{ℕ, ◌+◌, ◌*◌, [], get_or, ℤ, pos, sym, ap, subst, rules}
-use Rattle.text.proofs.Appends.{made_so}
 use Rattle.calls.specs.Sheet.{sheet}
 use Rattle.calls.specs.Promise.{FillingsAndCores}
 use Rattle.calls.specs.Runs.{PlaysByRuns, fresh}
 use Rattle.session.specs.Calls.{lasting_of}
 use Rattle.calls.proofs.Following.{refused_not_done}
-use Rattle.report.specs.Report.{fault_text}
+use Rattle.text.specs.Text.{fault_text}
 use Rattle.answers.specs.Answers.{usual, usual_start, FitText, unopened}
-use Rattle.answers.proofs.Telling.{opens_few, told}
+use Rattle.answers.proofs.Telling.{made_so, opens_few, told}
 use Rattle.answers.proofs.fit.push_fit.Goals as goal
 
 pub returns-in-Err : goal.returns-in-Err

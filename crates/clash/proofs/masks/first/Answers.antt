@@ -1,7 +1,8 @@
 use Rattle.std.proofs.Common.{ℕ, ◌^◌, ◌<◌, ◌≤◌, length, sym, ap, ◌∙◌, arith}
 use lib.Bits.{bit_or}
 use Rattle.bits.specs.Sets.{In, below}
-use Rattle.cores.proofs.SetFacts.{decides_not, below_more, first_end, length_zero, first_begin, first_step_in, first_step_past, first_step_off}
+use Rattle.std.proofs.lemmas.Bool.Decides.{not_from_Decides}
+use Rattle.cores.proofs.SetFacts.{below_more, first_end, length_zero, first_begin, first_step_in, first_step_past, first_step_off}
 use Rattle.clash.proofs.masks.first.Goals as goal
 use Rattle.clash.proofs.masks.first.Goals.{then-has, then-seen-many, else-seen-many, else-has}
 
@@ -24,7 +25,7 @@ loop-rule-preserved c =
             ],
           )
       | else-has w ↦
-          let h : In s r → ⊥ = λ e. decides_not c.has.result c.has.ensures w.if-has.false (c.loop-rule-test.true, e) in
+          let h : In s r → ⊥ = λ e. not_from_Decides c.has.result c.has.ensures w.if-has.false (c.loop-rule-test.true, e) in
           (omega (arith, w.seen-is), omega (arith, w.seen-is), w.chosen-is ∙ i.2 ∙ sym (first_step_off r s n h))
     ]
 

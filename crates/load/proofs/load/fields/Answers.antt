@@ -1,4 +1,4 @@
-use Rattle.std.proofs.Common.{refl, arith}
+use Rattle.std.proofs.Common.{arith, rules}
 use Rattle.std.proofs.lemmas.Result.{err_from_is_err_and}
 use Rattle.std.proofs.lemmas.Option.{MatchOption-at_some, MatchOption-at_none}
 use Rattle.sheets.specs.Sheet.{empty}
@@ -9,7 +9,7 @@ use Rattle.load.proofs.Sizes.{same_again, same_then}
 use Rattle.load.proofs.load.fields.Goals as goal
 
 pub loop-next-init : goal.loop-next-init
-loop-next-init c = (empty, begun_empty c.args.file.now, c.requires.zero, refl, same_again _)
+loop-next-init c = (empty, begun_empty c.args.file.now, c.requires.zero, search rules, same_again _)
 
 pub field-requires : goal.field-requires
 field-requires c =

@@ -3,4 +3,4 @@ use Rattle.calls.specs.History.{set_where}
 use Rattle.opening.proofs.start.rules_on.Given as goal
 
 abbrev pub invariant-loop-rule : goal.invariant-loop-rule
-invariant-loop-rule l = l.on ≡ set_where (λ r. get_or l.switches r false) l.rule
+invariant-loop-rule l = l.rules ≡ set_where (λ r. get_or l.switches r false) l.rule

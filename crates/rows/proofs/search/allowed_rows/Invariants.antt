@@ -2,5 +2,5 @@ use Rattle.std.proofs.Common.{◌≡◌}
 use Rattle.rows.specs.Support.{rows_within}
 use Rattle.rows.proofs.search.allowed_rows.Given as goal
 
-abbrev pub invariant-loop-position : goal.invariant-loop-position
-invariant-loop-position l = l.rows ≡ rows_within l.masks l.position
+abbrev pub invariant-loop-mask : goal.invariant-loop-mask
+invariant-loop-mask l = l.rows ≡ rows_within l.masks l.mask-index

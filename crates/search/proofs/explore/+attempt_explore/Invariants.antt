@@ -1,25 +1,27 @@
 use Rattle.std.proofs.Common.{◌+◌, ◌*◌, ◌≤◌, Bool, length}
-use Rattle.runs.specs.Settle.{State, state, total}
+use Rattle.runs.specs.Settle.{State, total}
 use Rattle.runs.specs.Run.{Explores}
+use Rattle.settling.specs.Kept.{state_of, Kept}
 use Rattle.search.specs.Room.{Able}
 use Rattle.search.proofs.explore.+attempt_explore.Given as goal
 
 abbrev pub decreases-attempt : goal.decreases-attempt
-decreases-attempt g l = 2 * total l.sets.now
+decreases-attempt g l = 2 * total l.progress.now.sets.now
 
 abbrev pub decreases-explore : goal.decreases-explore
-decreases-explore g l = 2 * total l.sets.now + 1
+decreases-explore g l = 2 * total l.progress.now.sets.now + 1
 
 -- what is explored from here is explored from the start
 abbrev pub invariant-explore-tries : goal.invariant-explore-tries
 invariant-explore-tries g l =
     let k = g.C.Chooser.meaning in
-    let m = g.B.RuleBook.meaning l.book in
+    let m = g.B.RuleBook.meaning l.rules.book.now in
     ((found : Bool) (y : g.row.C.Denot) (t : State)
-    → Explores k m l.listed l.chooser (state l.sets l.used l.weights) found y t
-    → Explores k m l.listed l.initial.chooser (state l.initial.sets l.initial.used l.initial.weights) found y t)
-    × (total l.sets ≤ total l.initial.sets)
-    × Able m l.sets (length l.initial.weights) (length l.initial.work)
+    → Explores k m l.rules.rules l.chooser (state_of l.progress) found y t
+    → Explores k m l.rules.rules l.initial.chooser (state_of l.initial.progress) found y t)
+    × (total l.progress.sets.now ≤ total l.initial.progress.sets.now)
+    × Able m l.progress.sets.now (length l.initial.work)
+    × Kept l.initial.progress l.progress
 
 abbrev pub decreases-explore-tries : goal.decreases-explore-tries
-decreases-explore-tries g l = total l.sets
+decreases-explore-tries g l = total l.progress.sets.now

@@ -4,7 +4,7 @@ use Rattle.std.proofs.lemmas.List.{length-take-le}
 use Rattle.std.proofs.lemmas.Result.{err_from_is_err_and}
 use Rattle.calls.specs.Sheet.{Judged.fits, Judged.fits_short}
 use Rattle.calls.proofs.Fillings.{few_cells}
-use Rattle.cores.proofs.SetFacts.{decides_not}
+use Rattle.std.proofs.lemmas.Bool.Decides.{not_from_Decides}
 use Rattle.session.specs.Calls.{sheet_of}
 use Rattle.session.proofs.Changing.{fit_shut}
 use Rattle.session.proofs.session.Session.fit.Goals as goal
@@ -21,7 +21,7 @@ returns-in_err-opened g c =
 
 pub returns-then-not-are_enough : goal.returns-then-not-are_enough
 returns-then-not-are_enough g c = record {
-  judged = fits_short c.in_ok-opened.ensures (decides_not c.are_enough.result c.are_enough.ensures c.if-not-are_enough.true);
+  judged = fits_short c.in_ok-opened.ensures (not_from_Decides c.are_enough.result c.are_enough.ensures c.if-not-are_enough.true);
   refused = λ _. (refl, refl, refl, refl);
   done = λ z. absurd (omega arith);
 }

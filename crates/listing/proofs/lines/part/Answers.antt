@@ -1,5 +1,0 @@
-use Rattle.listing.proofs.Texts.{part_cut}
-use Rattle.listing.proofs.lines.part.Goals as goal
-
-pub returns : goal.returns
-returns g c = part_cut c.args.items.now c.args.count c.args.from c.min-from.result c.min-count.result c.min-from.ensures c.min-count.ensures

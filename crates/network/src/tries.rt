@@ -1,0 +1,58 @@
+//! Rows tried one by one, and the places that they may have.
+ghost use Rattle.std.specs.Prelude.{◌≡◌, ℕ, ◌≤◌, true, false, List, [], ◌<◌, length, slice_index};
+ghost use Rattle.std.specs.Fn.{FnReturnsAt};
+ghost use Rattle.network.specs.Tries.{Allows, GoesOn, Tried};
+
+use bits::{has, only};
+
+// `length ≤ 4` stays a clause: masks are a part of an array of four, and no type says that of a slice.
+/// Whether a row with an allowed place at each position passes a test; it stops at the first.
+pub fn some_row<F: Fn(&[u8]) -> bool>(masks: &[u64], passes: F) -> bool
+    requires few { length masks.now ≤ 4 }
+    requires callable { F.IsAlwaysCallable passes }
+    ensures yes { result ≡ true → (row : List ℕ) × Tried masks.now row × FnReturnsAt F.Fn passes row true }
+    ensures no { result ≡ false → (row : List ℕ) → Tried masks.now row → FnReturnsAt F.Fn passes row false }
+{
+    goes_on(masks, &passes, [0; 4], 0)
+}
+
+/// Whether such a row that begins with the first `at` of these places passes the test.
+fn goes_on<F: Fn(&[u8]) -> bool>(masks: &[u64], passes: &F, places: [u8; 4], at: usize) -> bool
+    requires few { length masks.now ≤ 4 }
+    requires callable { F.IsAlwaysCallable passes.now }
+    requires within { at ≤ length masks.now }
+    ensures yes { result ≡ true → (row : List ℕ) × GoesOn masks.now places at row × FnReturnsAt F.Fn passes.now row true }
+    ensures no { result ≡ false → (row : List ℕ) → GoesOn masks.now places at row → FnReturnsAt F.Fn passes.now row false }
+{
+    if at == masks.len() {
+        return passes(&places[..at]);
+    }
+    // A loop and no `any`: a closure that calls this function would have to repeat its clauses.
+    for place in 0..64u8 {
+        if has(masks[at], place) {
+            let mut next = places;
+            next[at] = place;
+            if goes_on(masks, passes, next, at + 1) {
+                return true;
+            }
+        }
+    }
+    false
+}
+
+/// The places allowed at each position: those that remain at its cell, and at one position the given place alone.
+pub fn allowed(cells: [u8; 4], position: u8, place: u8, sets: &[u64]) -> [u64; 4]
+    requires { position < 4 }
+    ensures { Allows cells position place sets.now result }
+{
+    let mut masks = cells.map(|cell| remaining(sets, cell));
+    masks[position as usize] &= only(place);
+    masks
+}
+
+/// What remains of a cell, nothing where it is past the sets.
+fn remaining(sets: &[u64], cell: u8) -> u64
+    ensures { result ≡ slice_index sets.now cell }
+{
+    sets.get(cell as usize).copied().unwrap_or(0)
+}

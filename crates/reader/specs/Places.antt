@@ -1,0 +1,36 @@
+-- Places in a text. Assumes nothing.
+use Rattle.std.specs.Prelude.{◌≡◌, ℕ, List, ◌∷◌, take, drop}
+use Rattle.formulas.specs.declared.fault.FormulaFault.{FormulaFault}
+use Rattle.formulas.specs.Tree.{numeral}
+use Rattle.formulas.specs.Faults.{next, Digit, First}
+use Rattle.formulas.specs.Reading.{Spans, Clear, AwaitsSide}
+use Rattle.reader.specs.declared.cursor.Cursor.{Cursor}
+
+-- the next byte, and 256 where the text ends
+abbrev pub ahead : Cursor → ℕ
+ahead a = next (drop a.at a.text.bytes.now)
+
+-- the bytes before a place
+abbrev pub behind : Cursor → List ℕ
+behind a = take a.at a.text.bytes.now
+
+-- w stands in a text from one place up to another
+pub record Reads (a : Cursor) (w : List ℕ) (b : Cursor) : Type 0 where
+  pub text : b.text ≡ a.text
+  pub spans : Spans a.text.bytes.now a.at w b.at
+
+-- no fault 7 up to a place, and no fault 8 before it
+abbrev pub ClearTo : Cursor → Type 0
+ClearTo a = Clear a.text.cells a.text.bytes.now a.at
+
+-- a fault is the first of the place's text
+abbrev pub FirstIn : Cursor → FormulaFault → Type 0
+FirstIn a e = First a.text.cells a.text.bytes.now e.flaw e.offset
+
+-- a cell's name ends at a place, and a side was awaited where it began
+pub record AwaitsShift (a : Cursor) : Type 0 where
+  pub from : ℕ
+  pub cell : ℕ
+  pub awaits : AwaitsSide a.text.bytes.now from
+  pub named : Spans a.text.bytes.now from (67 ∷ numeral cell) a.at
+  pub ended : Digit (ahead a) → ⊥
