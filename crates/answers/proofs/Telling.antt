@@ -1,5 +1,5 @@
 -- One Fit that was played, and its text. Assumes nothing.
-use Rattle.std.proofs.Common.{◌≡◌, ℕ, suc, ◌+◌, ◌<◌, ◌≤◌, eqb, List, [], ◌∷◌, ◌++◌, length, get_or, ℤ, Some, IfOk, Ok, Err, Result, vec_items, codes, sym, refl, ap, ◌∙◌, subst, arith}
+use Rattle.std.proofs.Common.{◌≡◌, ℕ, suc, ◌+◌, ◌<◌, ◌≤◌, List, [], ◌∷◌, ◌++◌, length, get_or, ℤ, Some, vec_items, codes, sym, refl, ap, ◌∙◌, subst, arith}
 use Rattle.std.specs.List.{range_with_len, flat_map}
 use Rattle.std.proofs.lemmas.List.{get_or-take}
 use Rattle.choosers.specs.Choice.{Machine}
@@ -19,11 +19,6 @@ use Rattle.calls.proofs.Following.{judged_same, said_same}
 use Rattle.formulas.specs.Tree.{numeral}
 use Rattle.report.specs.Report.{cell_line, fits_text}
 use Rattle.answers.specs.Answers.{fitted_text, answer_text, FitText, fits, clashes}
-
--- what follows from success
-pub made_so : {X Y P Q : Type 0} (r : Result X Y) → (P → Q) → IfOk r (λ _. P) → IfOk r (λ _. Q)
-made_so (Ok x) f h = f h
-made_so (Err e) f h = tt
 
 -- an open session has few cells
 few : (s : Sheet) (n : ℕ) → n ≡ 0 → Checked s n → length s.lengths ≤ 64

@@ -16,6 +16,7 @@ use std::alloc::{AllocError, Global};
 use text::push_fault;
 
 /// The text of one Fit on the sheet in the stores.
+// Load gives the extent beside the stores, which the host keeps.
 fn push_sheet(
     heap: Global,
     out: &mut String,

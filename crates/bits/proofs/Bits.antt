@@ -1,9 +1,9 @@
 -- Bits of a mask: what is there after a place is taken out, or a rule marked. Assumes nothing.
 use Rattle.std.proofs.Common.{◌≡◌, ℕ, zero, suc, ◌+◌, ◌-◌, ◌*◌, ◌/◌, ◌%◌, ◌^◌, ◌<◌, ◌≤◌, ◌≢◌, sym, refl, ap, ◌∙◌, ap₂, inl, inr, mul-le-mul_right, one-mul, pow-suc, div-mul-le_self, arith, pow_pos, pow-add}
 use native.Mathlib.Nat.{div-eq_of_lt, div_self, mul-div_cancel_left, mul-mod_left}
-use lib.Bits.{bit_and, bit_or, bit_xor, xor_shr, xor_mod, or_shr, or_mod, or_zero_r, and_shr, and_mod, and_zero_r, and_high, xor_add_and}
+use lib.Bits.{bit_and, bit_or, bit_xor, xor_shr, xor_mod, or_shr, or_mod, or_zero_r, and_shr, and_mod, and_high, xor_add_and}
 use lib.Pow.{pow-lt}
-use Rattle.std.proofs.lemmas.Bool.{cases_order}
+use Rattle.std.proofs.lemmas.Bool.{cases_eq, cases_order}
 use Rattle.bits.specs.Sets.{In}
 
 -- the bits of a power
@@ -23,6 +23,9 @@ pow_other v w ne = elim (cases_order w v) [
     | inr gt ↦ ap (λ (x : ℕ). x % 2) (div-eq_of_lt (pow-lt gt))
   ]
 ]
+
+pub has_pow : (v w : ℕ) → In (2 ^ v) w → w ≡ v
+has_pow v w h = elim (cases_eq w v) [ inl e ↦ e | inr ne ↦ absurd (omega (arith, h, pow_other v w ne)) ]
 
 xor_bit : (s p w : ℕ) → bit_xor s p / 2 ^ w % 2 ≡ bit_xor (s / 2 ^ w % 2) (p / 2 ^ w % 2)
 xor_bit s p w = ap (λ (x : ℕ). x % 2) (xor_shr s p w) ∙ xor_mod (s / 2 ^ w) (p / 2 ^ w) 1
@@ -73,20 +76,24 @@ mark_more s v w h = or_bit s (2 ^ v) w ∙ ap (λ (x : ℕ). bit_or x (2 ^ v / 2
 pub mark_other : (s v w : ℕ) → w ≢ v → bit_or s (2 ^ v) / 2 ^ w % 2 ≡ s / 2 ^ w % 2
 mark_other s v w ne = or_bit s (2 ^ v) w ∙ ap (bit_or (s / 2 ^ w % 2)) (pow_other v w ne) ∙ or_zero_r (s / 2 ^ w % 2)
 
--- keeping one place alone
+-- what is in both
 and_bit : (s p w : ℕ) → bit_and s p / 2 ^ w % 2 ≡ bit_and (s / 2 ^ w % 2) (p / 2 ^ w % 2)
 and_bit s p w = ap (λ (x : ℕ). x % 2) (and_shr s p w) ∙ and_mod (s / 2 ^ w) (p / 2 ^ w) 1
 
-pub keep_same : (s v : ℕ) → bit_and s (2 ^ v) / 2 ^ v % 2 ≡ s / 2 ^ v % 2
-keep_same s v = and_bit s (2 ^ v) v ∙ ap (bit_and (s / 2 ^ v % 2)) (pow_same v) ∙ go (s / 2 ^ v % 2) (omega arith)
+pub and_has : (s p w : ℕ) → In (bit_and s p) w → In s w × In p w
+and_has s p w h = go (s / 2 ^ w % 2) (p / 2 ^ w % 2) (omega arith) (omega arith) (sym (and_bit s p w) ∙ h)
   where
-    go : (x : ℕ) → x < 2 → bit_and x 1 ≡ x
-    go zero h = refl
-    go (suc zero) h = refl
-    go (suc (suc x)) h = absurd (omega arith)
+    go : (x y : ℕ) → x < 2 → y < 2 → bit_and x y ≡ 1 → (x ≡ 1) × (y ≡ 1)
+    go zero zero h k e = absurd (omega arith)
+    go zero (suc zero) h k e = absurd (omega arith)
+    go (suc zero) zero h k e = absurd (omega arith)
+    go (suc zero) (suc zero) h k e = (refl, refl)
+    go (suc (suc x)) y h k e = absurd (omega arith)
+    go zero (suc (suc y)) h k e = absurd (omega arith)
+    go (suc zero) (suc (suc y)) h k e = absurd (omega arith)
 
-pub keep_other : (s v w : ℕ) → w ≢ v → bit_and s (2 ^ v) / 2 ^ w % 2 ≡ 0
-keep_other s v w ne = and_bit s (2 ^ v) w ∙ ap (bit_and (s / 2 ^ w % 2)) (pow_other v w ne) ∙ and_zero_r (s / 2 ^ w % 2)
+pub has_and : (s p w : ℕ) → In s w → In p w → In (bit_and s p) w
+has_and s p w h k = and_bit s p w ∙ ap₂ bit_and h k
 
 pub has_zero : (v : ℕ) → In 0 v → ⊥
 has_zero v h = let e : 0 / 2 ^ v ≡ 0 = div-eq_of_lt (pow_pos v) in omega arith

@@ -1,3 +1,4 @@
 pub mod Bits
 pub mod Low
 pub mod Size
+pub mod Whole

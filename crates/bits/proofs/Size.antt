@@ -33,7 +33,7 @@ below_le (suc n) s = elim (cases_eq (s / 2 ^ n % 2) 1) [
   | inr ne ↦ omega (arith, below_no n s ne, below_le n s)
 ]
 
-some_below : (n s v : ℕ) → v < n → In s v → 1 ≤ length (below n s)
+pub some_below : (n s v : ℕ) → v < n → In s v → 1 ≤ length (below n s)
 some_below zero s v l h = absurd (omega arith)
 some_below (suc n) s v l h = elim (cases_eq (s / 2 ^ n % 2) 1) [
   | inl e ↦ omega (arith, below_yes n s e)

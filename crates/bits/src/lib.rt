@@ -19,6 +19,18 @@ pub fn only(v: u8) -> u64
     if v < 64 { 1 << v } else { 0 }
 }
 
+/// The first numbers, so many; all where it is 64 or more.
+pub fn first(many: u8) -> u64
+    ensures some { many < 64 → result ≡ 2 ^ many - 1 }
+    ensures all { 64 ≤ many → result ≡ 2 ^ 64 - 1 }
+{
+    if many >= 64 {
+        u64::MAX
+    } else {
+        (1 << many) - 1
+    }
+}
+
 /// The set without `v`.
 pub fn without(set: u64, v: u8) -> u64
     ensures out { v < 64 → In set v → result ≡ set - 2 ^ v }
@@ -48,7 +60,8 @@ pub fn lowest(set: u64) -> Option<u8>
 
 /// How many are in the set.
 pub fn count(set: u64) -> u8
-    ensures { result ≡ size set }
+    ensures size { result ≡ size set }
+    ensures most { result ≤ 64 }
 {
     set.count_ones() as u8
 }

@@ -1,32 +1,18 @@
 -- Fillings under the standing pins are the fillings inside the starting sets. Assumes nothing.
-use Rattle.std.proofs.Common.{◌≡◌, ℕ, zero, suc, ◌+◌, ◌-◌, ◌/◌, ◌%◌, ◌^◌, ◌<◌, ◌≤◌, Bool, true, false, cond, List, ◌∷◌, length, get_or, Some, None, filter, Option, sym, refl, ap, ◌∙◌, subst, ⊎_elim, pow-suc, arith, pow_pos, pow_mono}
-use native.Mathlib.Nat.{div-eq_of_lt}
-use lib.Pow.{ones_split, high, ones_lt}
+use Rattle.std.proofs.Common.{◌≡◌, ℕ, zero, suc, ◌+◌, ◌^◌, ◌<◌, ◌≤◌, Bool, true, false, cond, List, ◌∷◌, length, get_or, Some, None, filter, Option, sym, refl, ap, ◌∙◌, subst, ⊎_elim, arith}
 use Rattle.std.proofs.lemmas.Bool.{cases_lt}
 use Rattle.std.proofs.lemmas.List.FromFn.{length-map-range_with_len, get_or-map-range_with_len}
 use Rattle.std.specs.List.{range_with_len}
 use Rattle.bits.specs.Sets.{In}
-use Rattle.bits.proofs.Bits.{pow_same}
+use Rattle.bits.proofs.Bits.{pow_same, has_pow}
+use Rattle.bits.proofs.Whole.{whole_has, has_whole}
 use Rattle.network.specs.Book.{Lawful}
 use Rattle.network.specs.Fillings.{Inside, Meetable}
 use Rattle.runs.specs.Law.{Ready}
-use Rattle.cores.proofs.SetFacts.{has_pow, set_has}
+use Rattle.cores.proofs.SetFacts.{set_has}
 use Rattle.calls.specs.Sheet.{Sheet, cells, places, Listed, Named, Checked.passes, Opens}
 use Rattle.calls.specs.History.{Did, standing, Valid, set_where, Filling, Fillable}
 use Rattle.calls.specs.Runs.{start_of, starts, start_after}
-
--- ---- whole lists as sets
-odd_ones : (j : ℕ) → (2 ^ suc j - 1) % 2 ≡ 1
-odd_ones j = let e = pow-suc 2 j in let p = pow_pos j in omega arith
-
-pub whole_has : (len v : ℕ) → v < len → In (2 ^ len - 1) v
-whole_has len v lt =
-    let e : len ≡ suc (len - v - 1) + v = omega arith in
-    ap (λ (x : ℕ). (2 ^ x - 1) / 2 ^ v % 2) e ∙ ap (λ (x : ℕ). x / 2 ^ v % 2) (ones_split (suc (len - v - 1)) v) ∙ ap (λ (x : ℕ). x % 2) (high (2 ^ suc (len - v - 1) - 1) v (ones_lt v)) ∙ odd_ones (len - v - 1)
-
-has_whole : (len v : ℕ) → In (2 ^ len - 1) v → v < len
-has_whole len v h = ⊎_elim (λ lt. lt)
-    (λ ge. absurd (let z : (2 ^ len - 1) / 2 ^ v ≡ 0 = div-eq_of_lt (let p = pow_pos len in let q : 2 ^ len ≤ 2 ^ v = pow_mono ge in omega arith) in omega arith)) (cases_lt v len)
 
 -- ---- starting sets
 pub starts_long : (lengths : List ℕ) (pins : ℕ → Option ℕ) → length (starts lengths pins) ≡ length lengths

@@ -3,6 +3,7 @@ use Rattle.std.proofs.Common.{◌≡◌, ℕ, ◌+◌, ◌-◌, ◌*◌, ◌^◌
 use Rattle.std.proofs.lemmas.List.{length-take-le, ext_get_or}
 use Rattle.std.proofs.lemmas.Bool.{cond-true, cond-false, eq-eqb, ne_eqb, cases_eq}
 use Rattle.bits.specs.Sets.{size}
+use Rattle.bits.proofs.Whole.{whole_has}
 use Rattle.network.specs.Book.{Lawful}
 use Rattle.network.specs.Fillings.{Inside, MeetsAll, Meetable}
 use Rattle.choosers.specs.Choice.{Machine, Naming}
@@ -23,7 +24,7 @@ use Rattle.calls.specs.Plays.{sizes, did, Makes, Makes.refused, Makes.changed, M
 use Rattle.calls.specs.Promise.{lines_of, filling_of, Ended, Ended.filled, Ended.clashed, FillingOrCore, FillingsAndCores}
 use Rattle.calls.specs.Runs.{Ran, start_after, Alone, Comes, StepRuns, StepDone, PlaysByRuns}
 use Rattle.calls.proofs.RunLaws.{ran_lawful, ran_fills}
-use Rattle.calls.proofs.Fillings.{whole_has, starts_long, few_rules, where_small, inside_filling, met_fillable, fillable_met}
+use Rattle.calls.proofs.Fillings.{starts_long, few_rules, where_small, inside_filling, met_fillable, fillable_met}
 
 -- ---- one meaning of "some filling" for another
 module _ (F G : ℕ → Type 0) (to : (a : ℕ) → F a → G a) (from : (a : ℕ) → G a → F a) where

@@ -6,7 +6,7 @@ use crate::refusal::Refusal;
 use clash::fitted::Fitted;
 
 /// The answer to a call.
-// Three cases and no Result: a call that is done has no values, and a Fit's are a case of their own.
+// Three cases of its own: as a `Result` of an `Option`, a call that is done would be `Ok(None)`, which says less.
 #[derive(Clone, Copy, Debug, PartialEq, Eq)]
 pub enum Answer {
     /// A Pin, a Free or a Switch was done.
@@ -30,6 +30,7 @@ impl From<Result<(), Refusal>> for Answer {
 }
 
 /// The answer to a Fit.
+// As above but for a call that is done: a function for both would be handed that case.
 impl From<Result<Fitted, Refusal>> for Answer {
     ghost from_gives = { λ r a. a ≡ to_fit r };
 

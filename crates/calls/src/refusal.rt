@@ -6,38 +6,28 @@ ghost use Rattle.calls.specs.Answers.{number_of};
 #[derive(Clone, Copy, Debug, PartialEq, Eq)]
 pub enum Refusal {
     /// There are no cells, or more than 64, or a list's length is not 1 to 64.
-    Lists,
+    Lists = 11,
     /// There are more than 64 rules.
-    TooManyRules,
+    TooManyRules = 12,
     /// A rule names a cell that does not exist.
-    MissingCell,
+    MissingCell = 13,
     /// The session is shut.
-    Shut,
+    Shut = 14,
     /// There is no such cell.
-    NoCell,
+    NoCell = 15,
     /// The cell has no such place.
-    NoPlace,
+    NoPlace = 16,
     /// There is no such rule.
-    NoRule,
+    NoRule = 17,
     /// A buffer is too short.
-    ShortBuffer,
+    ShortBuffer = 18,
 }
 
 impl Refusal {
-    /// The number that stands for it.
+    /// The number that stands for it, which hosts are promised.
     pub fn number(self) -> u8
         ensures { result ≡ number_of self }
     {
-        // A match and no discriminants, so that each number stands beside its reason where it is given out.
-        match self {
-            Refusal::Lists => 11,
-            Refusal::TooManyRules => 12,
-            Refusal::MissingCell => 13,
-            Refusal::Shut => 14,
-            Refusal::NoCell => 15,
-            Refusal::NoPlace => 16,
-            Refusal::NoRule => 17,
-            Refusal::ShortBuffer => 18,
-        }
+        self as u8
     }
 }

@@ -12,6 +12,7 @@ pub struct Buffers {
 }
 
 /// A call with buffers of its own, and its answer, which is written when the call is made.
+// The answer is no `Option`: it is read after the call alone, and an `Option` would have to be taken apart there.
 #[derive(Drop)]
 pub struct Step {
     pub call: Call,

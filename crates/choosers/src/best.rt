@@ -23,7 +23,7 @@ pub(crate) fn best_open<P: Preference>(figures: &[Figure]) -> Option<u8>
     let mut best: Option<(u8, Figure)> = None;
     for (cell, figure) in figures.iter().enumerate() {
         if cell < 64
-            && figure.places > 1
+            && figure.is_open()
             && best.is_none_or(|(_, leader)| P::is_better(figure, &leader))
         {
             best = Some((cell as u8, *figure));

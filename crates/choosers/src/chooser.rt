@@ -1,5 +1,5 @@
 //! The interface of a cell chooser.
-ghost use Rattle.std.specs.Prelude.{◌≡◌};
+ghost use Rattle.std.specs.Prelude.{◌≡◌, nat_lt};
 ghost use Rattle.choosers.specs.Choice.{Machine, Naming};
 
 /// What a chooser is told: a run begins, or what became of a tried cell.
@@ -11,10 +11,19 @@ pub enum Event {
 }
 
 /// What a chooser is given of a cell: how many of its places remain, and its weighted degree.
-#[derive(Clone, Copy, Debug, PartialEq, Eq)]
+#[derive(Clone, Copy, Debug, Default, PartialEq, Eq)]
 pub struct Figure {
     pub places: u8,
     pub degree: u64,
+}
+
+impl Figure {
+    /// Whether two or more places remain.
+    pub fn is_open(self) -> bool
+        ensures { result ≡ nat_lt 1 self.places }
+    {
+        self.places > 1
+    }
 }
 
 /// A way to choose the next cell to try.

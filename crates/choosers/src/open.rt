@@ -11,5 +11,5 @@ pub fn is_open(figures: &[Figure], cell: u8) -> bool
     cell < 64
         && figures
             .get(cell as usize)
-            .is_some_and(|figure| figure.places > 1)
+            .is_some_and(|figure| figure.is_open())
 }

@@ -20,6 +20,8 @@ impl Preference for Weighted {
     }
 }
 
+// This impl and that of `Fewest` differ in their preference alone. One impl for every preference would overlap that of `LastConflict`,
+// and one struct with the preference as a parameter would have no value by the name `Weighted`.
 impl Chooser for Weighted {
     ghost meaning = { record { names = λ _ fs. pick lighter fs (length fs); told = λ c _. c } };
 

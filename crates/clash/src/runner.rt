@@ -23,7 +23,7 @@ pub trait Runner<C>: Sized {
     ghost laws: { (r : Self) → Laws (ready r) (fits r) (runs r) };
 
     /// A run that lists some rules.
-    // The host lends each of these, so they stay apart; a struct of them would have to say of each that its loan is kept.
+    // The host lends each buffer, so they come one by one.
     fn run(
         &self,
         chooser: &mut C,

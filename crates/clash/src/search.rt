@@ -140,6 +140,7 @@ impl<T: Runner<C>, C> CoreSearch<'_, '_, T, C> {
 }
 
 /// A Fit of the rules that are on: one run, and at a clash the search for its core. Where that run finds a filling, the sets are those that it left.
+// The host lends each buffer, so they come one by one; `CoreSearch` holds them from here on.
 pub fn fit<T: Runner<C>, C>(
     runner: &T,
     chooser: &mut C,

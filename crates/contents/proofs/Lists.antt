@@ -1,5 +1,5 @@
 -- A list read number by number. Assumes nothing.
-use Rattle.std.proofs.Common.{◌≡◌, ℕ, zero, suc, ◌+◌, ◌*◌, ◌/◌, ◌%◌, ◌<◌, ◌≤◌, ◌≢◌, List, [], ◌∷◌, ◌++◌, length, get_or, take, drop, set, ℤ, pos, negsuc, nat_abs, sym, refl, ap, ◌∙◌, subst, ap₂, ⊎_elim, arith, w32, SFits, to_z, of_z, below_more}
+use Rattle.std.proofs.Common.{◌≡◌, ℕ, zero, suc, ◌+◌, ◌*◌, ◌/◌, ◌%◌, ◌<◌, ◌≤◌, ◌≢◌, List, [], ◌∷◌, ◌++◌, length, get_or, take, drop, set, ℤ, pos, nat_abs, sym, refl, ap, ◌∙◌, subst, ap₂, ⊎_elim, arith, w32, SFits, to_z, of_z, below_more}
 use Rattle.std.proofs.lemmas.Int.{to_z-of_z, of_z-to_z}
 use Rattle.std.proofs.lemmas.List.{nil_from_length, take-append-drop, drop-drop, length-drop, get_or-set_same, get_or-set_other, drop-set-lt, get_or-take, length-take-le}
 use Rattle.std.proofs.lemmas.Bool.{cases_lt}
@@ -7,6 +7,7 @@ use Rattle.std.specs.Simd.{first_chunks}
 use Rattle.sheets.specs.declared.fault.RuleFault.TheVariants.{List as ListFault}
 use Rattle.sheets.specs.Sheet.{four_bytes, list_bytes, GoodList}
 use Rattle.sheets.proofs.Fields.{byte}
+use Rattle.sheets.proofs.Contents.{small_fits}
 use Rattle.contents.specs.Read.{ReadList, NoList}
 
 -- four bytes and the number in them
@@ -27,10 +28,6 @@ four_same y z p q e =
     let d = byte _ _ _ _ c.1 in
     let n : of_z w32 y ≡ of_z w32 z = omega (arith, a.0, b.0, c.0, d.0) in
     sym (to_z-of_z w32 y p) ∙ ap (to_z w32) n ∙ to_z-of_z w32 z q
-
-pub small_fits : (z : ℤ) → nat_abs z ≤ 1000000 → SFits w32 z
-small_fits (pos n) h = record { sfits = omega arith }
-small_fits (negsuc n) h = record { sfits = omega arith }
 
 -- a number is what its bits say
 pub by_bits : (z : ℤ) (l : List ℕ) → SFits w32 z → four_bytes z ≡ l → SFits w32 (to_z w32 (of_z w32 z)) × (four_bytes (to_z w32 (of_z w32 z)) ≡ l)

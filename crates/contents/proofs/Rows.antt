@@ -1,18 +1,18 @@
 -- A rows rule read part by part. Assumes nothing.
-use Rattle.std.proofs.Common.{◌≡◌, ℕ, zero, suc, ◌+◌, ◌-◌, ◌*◌, ◌/◌, ◌%◌, ◌<◌, ◌≤◌, Bool, false, List, [], ◌∷◌, ◌++◌, map, length, get_or, take, drop, replicate, ℤ, Decides, sym, refl, ap, ◌∙◌, subst, mul-le-mul_right, suc-mul, mul-div_cancel, arith, length-append}
+use Rattle.std.proofs.Common.{◌≡◌, ℕ, zero, suc, ◌+◌, ◌*◌, ◌/◌, ◌%◌, ◌<◌, ◌≤◌, Bool, false, List, [], ◌∷◌, ◌++◌, map, length, get_or, take, drop, ℤ, Decides, sym, refl, ap, ◌∙◌, subst, mul-le-mul_right, suc-mul, mul-div_cancel, arith, length-append}
 use native.Mathlib.Nat.{mul-mod_left}
 use Rattle.std.specs.List.{flat_map}
-use Rattle.std.proofs.lemmas.List.{nil_from_length, take-append-drop, drop-drop, length-drop, length-take-le, length-map, get_or-map, get_or_append_left, take_at, drop_at, take_rest}
+use Rattle.std.proofs.lemmas.List.{nil_from_length, take-append-drop, drop-drop, length-drop, length-take-le, length-map, get_or-map, take_at, drop_at}
 use Rattle.std.proofs.lemmas.Bool.Decides.{not_from_Decides}
 use Rattle.rows.specs.declared.rule.Kind.{Kind}
 use Rattle.rows.specs.declared.rule.RowsRule.{RowsRule}
-use Rattle.network.specs.Cells.{GoodCells}
 use Rattle.sheets.specs.declared.fault.RuleFault.TheVariants.{Rows as RowsFault}
 use Rattle.sheets.specs.Sheet.{RowsField, kind_byte, rows_bytes, GoodRow, GoodRows}
 use Rattle.sheets.specs.Stored.{places_of, filled}
 use Rattle.sheets.proofs.Fields.{byte, same_front}
 use Rattle.contents.specs.Read.{ReadRows, NoRows}
-use Rattle.contents.specs.Parts.{Known, Listed, Headed}
+use Rattle.network.specs.Cells.{Listed}
+use Rattle.contents.specs.Parts.{Headed}
 
 -- row i of some bytes in rows of width w
 abbrev pub row_at : ℕ → List ℕ → ℕ → List ℕ
@@ -57,43 +57,9 @@ row_joined w (r ∷ rs) (suc i) h l =
     ap (take w) (next_row w i (r ++ flat_map (λ row. row) rs) ∙ ap (drop (i * w)) (drop_at r (flat_map (λ row. row) rs) w (h 0 (omega arith))))
     ∙ row_joined w rs i (λ j m. h (suc j) (omega arith)) (omega arith)
 
-two_bytes : (bytes : List ℕ) → 2 ≤ length bytes → bytes ≡ get_or bytes 0 0 ∷ get_or bytes 1 0 ∷ drop 2 bytes
-two_bytes [] h = absurd (omega arith)
-two_bytes (a ∷ []) h = absurd (omega arith)
-two_bytes (a ∷ b ∷ l) h = refl
-
-stored_at : (cells : List ℕ) (k : ℕ) → k < length cells → get_or (filled 0 4 cells) k 0 ≡ get_or cells k 0
-stored_at cells k h = get_or_append_left cells (replicate (4 - length cells) 0) 0 k h
-
--- stored cells are good if the cells are
-pub stored_good : (cells : List ℕ) (count : ℕ) → 1 ≤ length cells → length cells ≤ 4 → Known cells count → count ≤ 64
-    → ((j k : ℕ) → j < k → k < length cells → get_or cells j 0 ≡ get_or cells k 0 → ⊥) → GoodCells (length cells) (filled 0 4 cells)
-stored_good cells count some few known small apart = record {
-  some = some;
-  few = few;
-  small = λ k h. omega (arith, known k h, stored_at cells k h);
-  apart = λ j k h l e. apart j k h l (sym (stored_at cells j (omega arith)) ∙ e ∙ stored_at cells k l);
-}
-
--- a content with good parts
-pub headed : (content : List ℕ) (count : ℕ) (kind : Kind) (cells rest : List ℕ) → 2 ≤ length content → get_or content 0 0 ≡ kind_byte kind → length cells ≡ get_or content 1 0
-    → take (length content - 2) (drop 2 content) ≡ cells ++ rest → Known cells count → GoodCells (get_or content 1 0) (filled 0 4 cells) → Headed content count kind cells rest
-headed content count kind cells rest two k w is known good = record {
-  said = two_bytes content two ∙ (λ i. k i ∷ sym w i ∷ (sym (take_rest content 2) ∙ is) i);
-  some = omega (arith, good.some);
-  few = omega (arith, good.few);
-  known = known;
-  apart = λ i j h l e. good.apart i j h (omega arith) (stored_at cells i (omega arith) ∙ e ∙ sym (stored_at cells j l));
-}
-
 -- what a headed content has at its front
 pub head_width : (content : List ℕ) (count : ℕ) (kind : Kind) (cells rest : List ℕ) → Headed content count kind cells rest → (get_or content 1 0 ≡ length cells) × (length cells + length rest + 2 ≡ length content)
 head_width content count kind cells rest h = (ap (λ (l : List ℕ). get_or l 1 0) h.said, omega (arith, ap length h.said, length-append cells rest))
-
-pub head_cells : (content : List ℕ) (count : ℕ) (kind : Kind) (cells rest cs rs : List ℕ) → Headed content count kind cells rest
-    → take (length content - 2) (drop 2 content) ≡ cs ++ rs → length cs ≡ get_or content 1 0 → cells ≡ cs
-head_cells content count kind cells rest cs rs h is w =
-    sym (same_front cs cells rs rest (w ∙ (head_width content count kind cells rest h).0) (sym is ∙ take_rest content 2 ∙ ap (drop 2) h.said)).0
 
 -- a good rows rule's content is headed by its parts
 pub good_headed : (content lengths : List ℕ) (lists : List (List ℤ)) (x : RowsField) → map length lists ≡ lengths → GoodRows lists x → content ≡ rows_bytes x

@@ -7,10 +7,6 @@ use Rattle.sheets.specs.Sheet.{kind_byte}
 abbrev pub Known : List ℕ → ℕ → Type 0
 Known cells count = (k : ℕ) → k < length cells → slice_index cells k < count
 
--- each place of a row is below the length of its cell's list
-abbrev pub Listed : List ℕ → List ℕ → List ℕ → Type 0
-Listed lengths cells row = (k : ℕ) → k < length cells → slice_index row k < slice_index lengths (slice_index cells k)
-
 -- a content begins with a kind, a width and that many good cells
 pub record Headed (content : List ℕ) (count : ℕ) (kind : Kind) (cells rest : List ℕ) : Type 0 where
   pub said : content ≡ kind_byte kind ∷ length cells ∷ (cells ++ rest)

@@ -15,6 +15,7 @@ pub fn read_list(content: &[u8], tag: usize, numbers: &mut [i32]) -> Result<u8, 
     if !part.is_empty() || items.is_empty() || items.len() > 64 {
         return Err(RuleFault::List(tag));
     }
+    // By index, since a number is compared with those before it.
     for (k, bytes) in items.iter().enumerate() {
         let number = number_of(bytes);
         if !is_small(number) || !is_new(numbers, k, number) {
@@ -44,5 +45,6 @@ fn is_new(numbers: &[i32], count: usize, number: i32) -> bool
     requires { count ≤ length numbers.now }
     ensures { Decides result ((j : ℕ) → j < count → slice_index_or numbers.now j (pos 0) ≢ number) }
 {
+    // `all` and no `contains`: with that the proof did not close.
     numbers[..count].iter().all(|earlier| *earlier != number)
 }

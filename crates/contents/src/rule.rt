@@ -1,12 +1,13 @@
 //! A rule by rows.
 ghost use Rattle.std.specs.Prelude.{◌≡◌, ℕ, ◌+◌, ◌*◌, ◌/◌, ◌^◌, ◌<◌, ◌≤◌, List, length, take, drop, Decides, MatchOption, MatchResult, ◌≢◌};
 ghost use Rattle.rows.specs.declared.rule.Kind.{Kind};
+ghost use Rattle.network.specs.Cells.{Listed};
 ghost use Rattle.sheets.specs.Sheet.{kind_byte};
 ghost use Rattle.sheets.specs.Stored.{filled};
 ghost use Rattle.contents.specs.Read.{ReadRows, NoRows};
-ghost use Rattle.contents.specs.Parts.{Headed, Known, Listed};
+ghost use Rattle.contents.specs.Parts.{Headed, Known};
 
-use network::cells::are_good;
+use network::cells::{are_good, are_listed};
 use rows::rule::{Kind, RowsRule};
 use sheets::fault::RuleFault;
 
@@ -56,17 +57,12 @@ fn split(content: &[u8], count: usize) -> Option<Parts<'_>>
     requires { count ≤ 64 }
     ensures { MatchOption result ((kind : Kind) (cells rest : List ℕ) → Headed content.now count kind cells rest → ⊥) (λ p. Headed content.now count p.kind p.cells.now p.rest.now) }
 {
-    if content.len() < 2 {
+    let [kind, width, rest @ ..] = content else {
         return None;
-    }
-    let kind = kind_of(content[0])?;
-    let width = content[1];
-    let rest = &content[2..];
-    if width > 4 || width as usize > rest.len() {
-        return None;
-    }
-    let (cells, rest) = rest.split_at(width as usize);
-    if !are_known(cells, count) || !are_good(width, stored(cells)) {
+    };
+    let kind = kind_of(*kind)?;
+    let (cells, rest) = rest.split_at_checked(*width as usize)?;
+    if !are_known(cells, count) || !are_good(cells) {
         return None;
     }
     Some(Parts { kind, cells, rest })
@@ -101,23 +97,11 @@ fn are_known(cells: &[u8], count: usize) -> bool
     cells.iter().all(|cell| (*cell as usize) < count)
 }
 
-/// Whether a row has for each cell a place of its list.
-fn is_row(row: &[u8], cells: &[u8], lengths: &[u8]) -> bool
-    ensures { Decides result ((length row.now ≡ length cells.now) × Listed lengths.now cells.now row.now) }
-{
-    row.len() == cells.len()
-        && row.iter().zip(cells).all(|(place, cell)| {
-            lengths
-                .get(*cell as usize)
-                .is_some_and(|length| place < length)
-        })
-}
-
 /// Whether each row has places of its cells' lists.
 fn are_rows(rows: &[u8], cells: &[u8], lengths: &[u8]) -> bool
     requires { 0 < length cells.now }
     ensures { Decides result ((i : ℕ) → i < length rows.now / length cells.now → Listed lengths.now cells.now (take (length cells.now) (drop (i * length cells.now) rows.now))) }
 {
     rows.chunks_exact(cells.len())
-        .all(|row| is_row(row, cells, lengths))
+        .all(|row| are_listed(row, cells, lengths))
 }

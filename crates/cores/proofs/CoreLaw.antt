@@ -4,14 +4,14 @@ use lib.Bits.{bit_or}
 use Rattle.std.proofs.lemmas.Bool.{cases_eq}
 use Rattle.std.proofs.lemmas.List.{take_all}
 use Rattle.bits.specs.Sets.{In, Subset, members, size, set_of}
-use Rattle.bits.proofs.Bits.{has_zero, out_same, out_other}
+use Rattle.bits.proofs.Bits.{has_pow, has_zero, out_same, out_other}
 use Rattle.runs.specs.declared.line.Line.{Line}
 use Rattle.runs.specs.declared.line.Verdict.{Verdict}
 use Rattle.runs.specs.declared.line.Verdict.TheVariants.{Met, Unmet}
 use Rattle.runs.specs.Law.{Right}
 use Rattle.cores.specs.Core.{Core, Short, Each, Outcome, Promise}
 use Rattle.cores.specs.Fit.{with_first, with_rule, Lawful, Gives, Shrinks, Shrinks.all, Shrinks.fewer, Halves, Halves.met, Halves.down, Halves.up, Rounds, Rounds.alone, Rounds.round, Fit, Fit.fills, Fit.clashes}
-use Rattle.cores.proofs.SetFacts.{or_has, has_left, has_right, has_pow, or_subset, or_mono, has_first, has_set, set_empty, first_mono, first_more, member_has, members_subset, subset_members, size_le, size_lt, size_add, size_zero, subset_small}
+use Rattle.cores.proofs.SetFacts.{or_has, has_left, has_right, or_subset, or_mono, has_first, has_set, set_empty, first_mono, first_more, member_has, members_subset, subset_members, size_le, size_lt, size_add, size_zero, subset_small}
 
 half_down : (lo hi L : ℕ) → lo < hi → hi - lo + 1 ≤ 2 * L → (lo + hi) / 2 - lo + 1 ≤ L
 half_down lo hi L lt h = omega arith

@@ -7,7 +7,7 @@ use Rattle.std.proofs.lemmas.Bool.{cases_eq, cases_lt, cond_both, eqb-true, eqb-
 use Rattle.std.proofs.lemmas.Option.{slice_get-get_or}
 use Rattle.std.proofs.lemmas.List.{get_or_append_left, get_or-append_right, take_all, take-append-le, length_push, append-nil}
 use Rattle.bits.specs.Sets.{In, Subset, below, members, size, set_of}
-use Rattle.bits.proofs.Bits.{has_zero, has_le, mark_same, or_bit, pow_other, pow_same}
+use Rattle.bits.proofs.Bits.{has_zero, has_le, has_pow, mark_same, or_bit, pow_other, pow_same}
 
 -- ---- unions
 or_is : (x y : ℕ) → x < 2 → y < 2 → bit_or x y ≡ 1 → (x ≡ 1) ⊎ (y ≡ 1)
@@ -35,9 +35,6 @@ has_left a b r h = or_bit a b r ∙ ap (λ (x : ℕ). bit_or x (b / 2 ^ r % 2)) 
 
 pub has_right : (a b r : ℕ) → In b r → In (bit_or a b) r
 has_right a b r h = or_bit a b r ∙ ap (bit_or (a / 2 ^ r % 2)) h ∙ or_one (a / 2 ^ r % 2) (omega arith)
-
-pub has_pow : (r q : ℕ) → In (2 ^ r) q → q ≡ r
-has_pow r q h = elim (cases_eq q r) [ inl e ↦ e | inr ne ↦ absurd (let z = pow_other r q ne in omega arith) ]
 
 pub or_subset : (a b c : ℕ) → Subset a c → Subset b c → Subset (bit_or a b) c
 or_subset a b c f g r h = ⊎_elim (f r) (g r) (or_has a b r h)

@@ -1,17 +1,17 @@
 //! What a chooser is given: how many places remain at each cell, and its weighted degree. Uses `bits`, `network`, `choosers` and `runs`.
 #![tactic(auto)]
 
-ghost use Rattle.std.specs.Prelude.{◌≡◌, ◌^◌, ◌<◌, ◌≤◌, length, nat_lt};
-ghost use Rattle.bits.specs.Sets.{size};
-ghost use Rattle.runs.specs.Settle.{left_at};
+ghost use Rattle.std.specs.Prelude.{◌≡◌, ◌^◌, ◌<◌, ◌≤◌, length};
 ghost use Rattle.runs.specs.Figures.{joins?, share, degree_of, figure_of, figures_of};
 ghost use Rattle.runs.specs.Law.{Suits};
 
 use bits::{count, has};
 use choosers::chooser::{Chooser, Figure};
 use network::book::RuleBook;
+use network::tries::remaining;
 
 /// The cells of a run: what remains at each, the rules of a book that are listed, and their weights.
+// It borrows for one choice what `settling`, a crate beside this one, holds in two structs: what is lent for the run, and what changes.
 #[derive(Drop)]
 pub struct Cells<'a, B: RuleBook> {
     pub book: &'a B,
@@ -23,21 +23,7 @@ pub struct Cells<'a, B: RuleBook> {
     pub ghost weighted: { 64 ≤ length weights.now },
 }
 
-/// Whether two or more places remain.
-fn is_open(places: u64) -> bool
-    ensures { result ≡ nat_lt 1 (size places) }
-{
-    count(places) > 1
-}
-
 impl<B: RuleBook> Cells<'_, B> {
-    /// The places that remain at a cell, none where it is missing.
-    fn places(&self, cell: u8) -> u64
-        ensures { result ≡ left_at self.now.sets.now cell }
-    {
-        self.sets.get(cell as usize).copied().unwrap_or(0)
-    }
-
     /// Whether the rule has the cell, and another one that is open.
     fn joins(&self, rule: u16, cell: u8) -> bool
         ensures { result ≡ joins? self.now.sets.now cell ((B.meaning self.now.book.now).rule rule).cells }
@@ -50,12 +36,13 @@ impl<B: RuleBook> Cells<'_, B> {
             if other == cell {
                 here = true;
             } else {
-                elsewhere |= is_open(self.places(other));
+                elsewhere |= count(remaining(self.sets, other)) > 1;
             }
         }
         here && elsewhere
     }
 
+    // `rule < 64` stays a clause: a book is asked by a plain number, so a type for a small one would be taken apart at once.
     /// What a rule adds to the weighted degree of a cell: its weight, if it is listed and has that cell and another open one.
     fn share(&self, rule: u16, cell: u8) -> u32
         requires { rule < 64 }
@@ -86,7 +73,7 @@ impl<B: RuleBook> Cells<'_, B> {
         ensures { result ≡ figure_of (B.meaning self.now.book.now) self.now.listed self.now.sets.now self.now.weights.now cell }
     {
         Figure {
-            places: count(self.places(cell)),
+            places: count(remaining(self.sets, cell)),
             degree: self.degree(cell),
         }
     }
@@ -102,14 +89,11 @@ impl<B: RuleBook> Cells<'_, B> {
         chooser.choose(figures)
     }
 
+    // A number and no `Option`: it hands on the chooser's.
     /// The cell that the chooser names at the figures of all cells, 255 if none is open: the number that choosers promise to hosts.
     pub fn choose<C: Chooser>(&self, chooser: &C) -> u8
         ensures { result ≡ C.Chooser.meaning.names chooser.now (figures_of (B.RuleBook.meaning self.now.book.now) self.now.listed self.now.sets.now self.now.weights.now) }
     {
-        let none = Figure {
-            places: 0,
-            degree: 0,
-        };
-        self.choose_at(chooser, &mut [none; 64][..self.sets.len()])
+        self.choose_at(chooser, &mut [Figure::default(); 64][..self.sets.len()])
     }
 }

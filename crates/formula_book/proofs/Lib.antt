@@ -1,4 +1,5 @@
 pub mod Grounds
 pub mod Cells
 pub mod Listed
+pub mod Cut
 pub mod Finding

@@ -1,14 +1,15 @@
 -- Listed places, by position. Assumes nothing.
 use Rattle.std.proofs.Common.{◌≡◌, ℕ, zero, suc, ◌<◌, true, ltb, List, [], ◌∷◌, length, get_or, Decides, refl, arith}
 use Rattle.std.proofs.lemmas.Bool.{and_parts, and_from, ltb-true, lt-ltb, false≢true}
+use Rattle.network.specs.Cells.{Listed as PlacesListed}
 use Rattle.formula_book.specs.Formulas.{Lists, listed}
 
 module _ (l : Lists) where
   -- each place is of its cell's list
   abbrev pub Listed : List ℕ → List ℕ → Type 0
-  Listed cs row = (length cs ≡ length row) × ((k : ℕ) → k < length cs → get_or row k 0 < get_or l.lengths (get_or cs k 0) 0)
+  Listed cs row = (length row ≡ length cs) × PlacesListed l.lengths cs row
 
-  listed_from : (cs row : List ℕ) → length cs ≡ length row → ((k : ℕ) → k < length cs → get_or row k 0 < get_or l.lengths (get_or cs k 0) 0) → listed l cs row ≡ true
+  listed_from : (cs row : List ℕ) → length row ≡ length cs → ((k : ℕ) → k < length cs → get_or row k 0 < get_or l.lengths (get_or cs k 0) 0) → listed l cs row ≡ true
   listed_from [] [] e h = refl
   listed_from [] (w ∷ row) e h = absurd (omega arith)
   listed_from (c ∷ cs) [] e h = absurd (omega arith)

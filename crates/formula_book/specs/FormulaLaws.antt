@@ -52,9 +52,9 @@ sound l ns f fit =
           fit.good.apart j k lt m' (sym (cell_of f j 255 n') ∙ e ∙ cell_of f k 255 m');
     }
 
-pub formula_lawful : (l : Lists) (ns : List Node) (fs : List Formula) → WellFormed ns fs → Lawful (formula_book l ns fs)
+pub formula_lawful : (l : Lists) (ns : List Node) (fs : List Formula) → ∥ WellFormed ns fs ∥₁ → Lawful (formula_book l ns fs)
 formula_lawful l ns fs ok = record {
-  bounded = ok.few;
-  sound = λ r h. sound l ns (slice_index_or fs r no_formula) (ok.each r h);
+  bounded = (well_formed ok).few;
+  sound = λ r h. sound l ns (slice_index_or fs r no_formula) ((well_formed ok).each r h);
   missing = λ r h. ap cells_of (get_or_past fs r no_formula h);
 }

@@ -9,6 +9,7 @@ use network::cells::are_good;
 use reader::formula::Formula;
 
 impl<'a> FormulaBook<'a> {
+    // As in a rows book, whose stores are others: a function for both would be handed all that differs.
     /// The book of these stores, and the book without rules where they are not well formed.
     pub fn new(
         formulas: &'a [Formula],
@@ -50,7 +51,8 @@ pub fn is_well_formed(nodes: &[Node], formulas: &[Formula]) -> bool
 fn is_fit(nodes: &[Node], formula: &Formula) -> bool
     ensures { Decides result (Fit nodes.now formula.now) }
 {
-    are_good(formula.width, formula.cells)
+    formula.width <= 4
+        && are_good(&formula.cells[..formula.width as usize])
         && (formula.root as usize) < nodes.len()
         && is_grounded(nodes, formula.root)
 }

@@ -1,4 +1,4 @@
-//! The formula book: rules that are conditions on the cells' numbers, over borrowed stores. Uses `network`, `formulas`, `reader` and `judge`.
+//! The formula book: rules that are conditions on the cells' numbers, over borrowed stores. Uses `bits`, `network`, `formulas`, `reader` and `judge`.
 #![tactic(auto)]
 
 pub mod book;

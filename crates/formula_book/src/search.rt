@@ -1,10 +1,11 @@
 //! Rows of one formula: which it permits.
-ghost use Rattle.std.specs.Prelude.{◌≡◌, ℕ, ◌<◌, length, slice_index, Decides};
+ghost use Rattle.std.specs.Prelude.{◌≡◌, ℕ, ◌<◌, length, slice_index};
 ghost use Rattle.formula_book.specs.Formulas.{Fit, assigned, number_at, permits_of, unset};
 ghost use Rattle.formula_book.specs.Support.{lists_of};
 
 use crate::book::FormulaBook;
 use judge::holds;
+use network::cells::are_listed;
 use reader::formula::Formula;
 
 impl<'a> FormulaBook<'a> {
@@ -14,25 +15,8 @@ impl<'a> FormulaBook<'a> {
         ensures { result ≡ permits_of (lists_of self.now.lengths.now self.now.numbers.now) self.now.nodes.now formula.now row.now }
     {
         let cells = &formula.cells[..formula.width as usize];
-        self.is_listed(cells, row) && holds(self.nodes, formula.root, &self.assigned(cells, row))
-    }
-
-    /// Whether a row has for each cell a place of its list.
-    fn is_listed(&self, cells: &[u8], row: &[u8]) -> bool
-        ensures { Decides result ((length cells.now ≡ length row.now) × ((k : ℕ) → k < length cells.now → slice_index row.now k < slice_index self.now.lengths.now (slice_index cells.now k))) }
-    {
-        cells.len() == row.len()
-            && cells
-                .iter()
-                .zip(row)
-                .all(|(cell, place)| *place < self.list_length(*cell))
-    }
-
-    /// How many places the list of a cell has, none where it is missing.
-    fn list_length(&self, cell: u8) -> u8
-        ensures { result ≡ slice_index self.now.lengths.now cell }
-    {
-        self.lengths.get(cell as usize).copied().unwrap_or(0)
+        are_listed(row, cells, self.lengths)
+            && holds(self.nodes, formula.root, &self.assigned(cells, row))
     }
 
     /// The cells' numbers at a row's places, 0 at other cells.
@@ -47,6 +31,7 @@ impl<'a> FormulaBook<'a> {
         numbers
     }
 
+    // One line, as `report` has it of a cell's place and `judge` of a cell: of the crates below them none is about lists.
     /// The number at a place of a cell, 0 where it is missing.
     fn number(&self, cell: u8, place: u8) -> i32
         ensures { result ≡ number_at (lists_of self.now.lengths.now self.now.numbers.now) cell place }

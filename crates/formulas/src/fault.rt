@@ -6,27 +6,21 @@ ghost use Rattle.formulas.specs.Faults.{number};
 #[derive(Clone, Copy, Debug, PartialEq, Eq)]
 pub enum Flaw {
     /// A byte outside the grammar, or a text that ends too soon.
-    Grammar,
+    Grammar = 6,
     /// Level 17 would begin.
-    Level,
+    Level = 7,
     /// A missing cell, or digits above 1,000,000.
-    Range,
+    Range = 8,
     /// No cell, or more than four different ones.
-    Cells,
+    Cells = 9,
 }
 
 impl Flaw {
-    /// The number that stands for it.
-    // The interface promises these numbers to hosts.
+    /// The number that stands for it, which hosts are promised.
     pub fn number(self) -> u8
         ensures { result ≡ number self }
     {
-        match self {
-            Flaw::Grammar => 6,
-            Flaw::Level => 7,
-            Flaw::Range => 8,
-            Flaw::Cells => 9,
-        }
+        self as u8
     }
 }
 

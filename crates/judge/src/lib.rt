@@ -20,6 +20,7 @@ fn shift_by(number: i32, shift: Shift) -> i64
     }
 }
 
+// One line, as `formula_book` and `report` have it of a place of a list.
 /// The number of a cell, 0 where it has none.
 pub fn number_of(cell: u8, numbers: &[i32]) -> i32
     ensures { result ≡ slice_index_or numbers.now cell (pos 0) }

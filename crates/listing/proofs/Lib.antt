@@ -1,4 +1,4 @@
 mod Nodes
-mod Texts
+pub mod Texts
 mod Walks
 mod Stored

@@ -11,9 +11,10 @@ use Rattle.sheets.specs.declared.stores.Extent.{Extent}
 use Rattle.sheets.specs.Sheet.{Sheet, RowsField, Field, GoodList, GoodRows, Each, cell_field, rows_field, formula_field, field_bytes, fields_of, file_of}
 use Rattle.sheets.specs.Stored.{Contents, filled, places_of, stored_rule_of, rules_of}
 use Rattle.sheets.proofs.Fields.{joined_append}
+use Rattle.sheets.proofs.Storing.{length_rules}
 use Rattle.sheet_books.specs.Books.{Holds}
 use Rattle.sheet_books.proofs.Parts.{filled_take, filled_length, each_map}
-use Rattle.sheet_books.proofs.StoredRows.{Wide, run, rules_length}
+use Rattle.sheet_books.proofs.StoredRows.{Wide, run}
 use Rattle.sheet_books.proofs.StoredNumbers.{Short, spread}
 use Rattle.listing.specs.Listing.{numbered, cell_line, list_in, rows_line, field_of, formula_line, formula_lines, listing_of}
 
@@ -117,7 +118,7 @@ module _ (held : Contents) (e : Extent) (s : Sheet) (h : Holds held e s) where
         omega (
           arith,
           ap length are,
-          rules_length 0 s.rows,
+          length_rules 0 s.rows,
           length-append (a ++ (b ++ d)) (end_field ∷ []),
           length-append a (b ++ d),
           length-append b d,
@@ -139,5 +140,5 @@ module _ (held : Contents) (e : Extent) (s : Sheet) (h : Holds held e s) where
         let rows : numbered (λ r rule. rows_line r (field_of held.places rule)) 0 rules ≡ numbered rows_line 0 s.rows =
         ap (numbered (λ r rule. rows_line r (field_of held.places rule)) 0) are ∙ rules_same s.rows 0 0 [] places_after held.places wide refl (ap (λ (x : Contents). x.places) h.held) in
         let formulas : formula_lines (length rules) (all_fields s) ≡ numbered formula_line (length s.rows) s.formulas =
-        ap (λ n. formula_lines n (all_fields s)) (ap length are ∙ rules_length 0 s.rows) ∙ lines_same (length s.rows) s in
+        ap (λ n. formula_lines n (all_fields s)) (ap length are ∙ length_rules 0 s.rows) ∙ lines_same (length s.rows) s in
         ap₂ (λ x y. x ++ y) cells (ap₂ (λ x y. x ++ y) rows formulas)

@@ -6,16 +6,12 @@ use Rattle.std.specs.List.{range_with_len, flat_map}
 use Rattle.std.proofs.lemmas.List.FromFn.{map-range_with_len_more, length-map-range_with_len}
 use Rattle.std.proofs.lemmas.List.{take_more, take_all, length-take-le}
 use Rattle.std.proofs.lemmas.Bool.{ne_eqb}
+use Rattle.std.proofs.lemmas.Result.{IfOk-equal}
+use Rattle.text.proofs.Decimals.{decimal_numeral}
 use Rattle.listing.specs.Listing.{numbered, commas, row_text}
 
--- what follows from success
-pub made_so : {X Y P Q : Type 0} (r : Result X Y) → (P → Q) → IfOk r (λ _. P) → IfOk r (λ _. Q)
-made_so (Ok x) f h = f h
-made_so (Err e) f h = tt
-
--- one piece after another
-pub after : {X : Type 0} {v w : List X} (u a b : List X) → v ≡ u ++ a → w ≡ v ++ b → w ≡ u ++ (a ++ b)
-after u a b e f = f ∙ ap (λ l. l ++ b) e ∙ append_assoc u a b
+-- for a line that is made of several pieces
+pub ruleset pieces = (decimal_numeral, IfOk-equal, append_assoc)
 
 joined_push : {X : Type 0} (f : X → List ℕ) (xs : List X) (x : X) → flat_map f (xs ++ (x ∷ [])) ≡ flat_map f xs ++ f x
 joined_push f [] x = append-nil (f x)

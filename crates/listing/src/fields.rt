@@ -5,20 +5,21 @@ ghost use Rattle.sheets.specs.Sheet.{Field, field_bytes};
 ghost use Rattle.listing.specs.Listing.{text_line, formula_lines};
 
 use sheets::tag::Tag;
-use std::io;
-use std::io::Write;
+use std::alloc::AllocError;
 
 /// The line of a formula.
-fn push_formula(out: &mut Vec<u8>, number: u64, formula: &[u8]) -> io::Result<()>
+#[tactic(auto, using(crate::proofs::Texts::pieces))]
+fn push_formula(out: &mut Vec<u8>, number: u64, formula: &[u8]) -> Result<(), AllocError>
     ensures { OnOk result (out.new.items ≡ out.old.items ++ text_line number formula.now) }
 {
-    write!(out, "rule {number} formula ")?;
-    out.write_all(formula)?;
-    writeln!(out)
+    let head = format!(in *out.allocator(); "rule {number} formula ")?;
+    out.extend_from_slice(head.as_bytes())?;
+    out.extend_from_slice(formula)?;
+    out.extend_from_slice(b"\n")
 }
 
 /// The line of a field if it is a formula's. It returns the number of the next formula.
-fn push_field(out: &mut Vec<u8>, number: u64, tag: u8, content: &[u8]) -> io::Result<u64>
+fn push_field(out: &mut Vec<u8>, number: u64, tag: u8, content: &[u8]) -> Result<u64, AllocError>
     ensures { IfOk result (λ n. (out.new.items ≡ out.old.items ++ (if nat_eq tag 3 then text_line number content.now else []))
         × (number + 1 < 2 ^ 64 → n ≡ (if nat_eq tag 3 then number + 1 else number))) }
 {
@@ -30,16 +31,16 @@ fn push_field(out: &mut Vec<u8>, number: u64, tag: u8, content: &[u8]) -> io::Re
 }
 
 /// The lines of a file's formulas.
-pub fn push_formulas(out: &mut Vec<u8>, first: u64, file: &[u8]) -> io::Result<()>
+pub fn push_formulas(out: &mut Vec<u8>, first: u64, file: &[u8]) -> Result<(), AllocError>
     ensures { OnOk result ((fs : List Field) → first + length fs < 2 ^ 64 → file.now ≡ flat_map field_bytes fs → out.new.items ≡ out.old.items ++ formula_lines first fs) }
 {
     let mut number = first;
     let mut rest = file;
-    while rest.len() >= 3 {
-        let size = usize::from(u16::from_be_bytes([rest[1], rest[2]]));
-        let end = 3 + size.min(rest.len() - 3);
-        number = push_field(out, number, rest[0], &rest[3..end])?;
-        rest = &rest[end..];
+    while let Some((&[tag, high, low], after)) = rest.split_first_chunk::<3>() {
+        let size = usize::from(u16::from_be_bytes([high, low]));
+        let (content, others) = after.split_at(size.min(after.len()));
+        number = push_field(out, number, tag, content)?;
+        rest = others;
     }
     Ok(())
 }

@@ -11,22 +11,26 @@ use crate::fields::push_formulas;
 use crate::lines::{push_cells, push_rules};
 use sheet_books::{lengths, rules};
 use sheets::stores::{Extent, Stores};
-use std::io;
+use std::alloc::AllocError;
 
 mod fields;
 mod lines;
 
 /// Appends the text of the sheet in the stores, which was read from this file. The stored nodes are the same for AND(a,AND(b,c)) and for AND(a,b,c), so the formulas' texts are taken from the file.
+// Bytes and no `String`, which would have to check what the file has of formulas. The host keeps the stores, so the extent comes beside them.
 pub fn listing(
     out: &mut Vec<u8>,
     file: &[u8],
     stores: &Stores<'_>,
     extent: Extent,
-) -> io::Result<()>
+) -> Result<(), AllocError>
     ensures { OnOk result ((s : Sheet) → Holds (held stores.now) extent s → file.now ≡ file_of s → out.new.items ≡ out.old.items ++ listing_of s) }
 {
     let rules = rules(stores, extent);
-    push_cells(out, lengths(stores, extent), &stores.numbers)?;
-    push_rules(out, rules, &stores.places)?;
+    // These lines are text; the formulas' are bytes of the file.
+    let mut lines = String::new(*out.allocator());
+    push_cells(&mut lines, lengths(stores, extent), &stores.numbers)?;
+    push_rules(&mut lines, rules, &stores.places)?;
+    out.extend_from_slice(lines.as_bytes())?;
     push_formulas(out, rules.len() as u64, file)
 }

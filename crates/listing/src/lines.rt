@@ -1,17 +1,16 @@
 //! The lines of the cells and of the rules by rows.
-ghost use Rattle.std.specs.Prelude.{◌≡◌, ◌*◌, [], ◌∷◌, ◌++◌, map, take, drop, if◌then◌else◌, OnOk, nat_eq, codes};
+ghost use Rattle.std.specs.Prelude.{◌≡◌, ◌*◌, ◌∷◌, ◌++◌, map, take, drop, OnOk, codes, string_bytes};
 ghost use Rattle.std.specs.List.{flat_map};
 ghost use Rattle.formulas.specs.Tree.{numeral, number_text};
 ghost use Rattle.listing.specs.Listing.{numbered, cell_line, kind_text, commas, row_text, rows_line, rows_in, field_of, list_in};
 
 use rows::rule::{Kind, RowsRule};
-use std::io;
-use std::io::Write;
-use text::part;
+use std::alloc::AllocError;
+use text::{part, push_separator};
 
 /// Some numbers, each after the same text.
-fn push_each(out: &mut Vec<u8>, before: &str, items: &[u8]) -> io::Result<()>
-    ensures { OnOk result (out.new.items ≡ out.old.items ++ flat_map (λ v. before.now ++ numeral v) items.now) }
+fn push_each(out: &mut String, before: &str, items: &[u8]) -> Result<(), AllocError>
+    ensures { OnOk result (string_bytes out.new ≡ string_bytes out.old ++ flat_map (λ v. before.now ++ numeral v) items.now) }
 {
     for item in items {
         write!(out, "{before}{item}")?;
@@ -20,8 +19,10 @@ fn push_each(out: &mut Vec<u8>, before: &str, items: &[u8]) -> io::Result<()>
 }
 
 /// The numbers of a list.
-fn push_numbers(out: &mut Vec<u8>, numbers: &[i32]) -> io::Result<()>
-    ensures { OnOk result (out.new.items ≡ out.old.items ++ flat_map (λ z. 32 ∷ number_text z) numbers.now) }
+// A loop of its own: one for any item that is written would say its text by what `Display` gives, and both callers would have to turn that
+// into the words of specs.
+fn push_numbers(out: &mut String, numbers: &[i32]) -> Result<(), AllocError>
+    ensures { OnOk result (string_bytes out.new ≡ string_bytes out.old ++ flat_map (λ z. 32 ∷ number_text z) numbers.now) }
 {
     for &number in numbers {
         write!(out, " {number}")?;
@@ -30,8 +31,9 @@ fn push_numbers(out: &mut Vec<u8>, numbers: &[i32]) -> io::Result<()>
 }
 
 /// The line of a cell.
-fn push_cell(out: &mut Vec<u8>, cell: usize, numbers: &[i32]) -> io::Result<()>
-    ensures { OnOk result (out.new.items ≡ out.old.items ++ cell_line cell numbers.now) }
+#[tactic(auto, using(crate::proofs::Texts::pieces))]
+fn push_cell(out: &mut String, cell: usize, numbers: &[i32]) -> Result<(), AllocError>
+    ensures { OnOk result (string_bytes out.new ≡ string_bytes out.old ++ cell_line cell numbers.now) }
 {
     write!(out, "C{cell}:")?;
     push_numbers(out, numbers)?;
@@ -39,8 +41,8 @@ fn push_cell(out: &mut Vec<u8>, cell: usize, numbers: &[i32]) -> io::Result<()>
 }
 
 /// The lines of the cells, whose lists have these lengths, and 64 places each among the numbers.
-pub fn push_cells(out: &mut Vec<u8>, lengths: &[u8], numbers: &[i32]) -> io::Result<()>
-    ensures { OnOk result (out.new.items ≡ out.old.items ++ numbered (λ c n. cell_line c (list_in numbers.now c n)) 0 lengths.now) }
+pub fn push_cells(out: &mut String, lengths: &[u8], numbers: &[i32]) -> Result<(), AllocError>
+    ensures { OnOk result (string_bytes out.new ≡ string_bytes out.old ++ numbered (λ c n. cell_line c (list_in numbers.now c n)) 0 lengths.now) }
 {
     for (cell, length) in lengths.iter().enumerate() {
         let list = part(numbers, cell.saturating_mul(64), usize::from(*length));
@@ -50,6 +52,7 @@ pub fn push_cells(out: &mut Vec<u8>, lengths: &[u8], numbers: &[i32]) -> io::Res
 }
 
 /// What kind of rows a rule stores, in words.
+// No `Display` of `Kind`: its crate writes nothing, and this line alone has these words.
 fn kind_words(kind: Kind) -> &'static str
     ensures { result.now ≡ kind_text kind }
 {
@@ -60,32 +63,28 @@ fn kind_words(kind: Kind) -> &'static str
 }
 
 /// The rows of a rule, with a comma between them.
-fn push_rows(out: &mut Vec<u8>, rule: &RowsRule, places: &[u8]) -> io::Result<()>
-    ensures { OnOk result (out.new.items ≡ out.old.items ++ commas (map row_text (rows_in places.now rule.now))) }
+fn push_rows(out: &mut String, rule: &RowsRule, places: &[u8]) -> Result<(), AllocError>
+    ensures { OnOk result (string_bytes out.new ≡ string_bytes out.old ++ commas (map row_text (rows_in places.now rule.now))) }
 {
     let width = usize::from(rule.width);
+    // By number and no `chunks_exact`, which refuses the width 0 that a rule may have here.
     for row in 0..rule.count {
-        push_comma(out, row)?;
+        push_separator(out, ",", row as usize)?;
         let from = rule.start as usize + row as usize * width;
         push_each(out, " ", part(places, from, width))?;
     }
     Ok(())
 }
 
-/// A comma before each row but the first.
-// As the blank of `preview`, but into bytes: one function for both would take any writer, and the laws of one.
-fn push_comma(out: &mut Vec<u8>, row: u32) -> io::Result<()>
-    ensures { OnOk result (out.new.items ≡ out.old.items ++ (if nat_eq row 0 then [] else 44 ∷ [])) }
-{
-    if row == 0 {
-        return Ok(());
-    }
-    write!(out, ",")
-}
-
 /// The line of a rule.
-fn push_rule(out: &mut Vec<u8>, number: usize, rule: &RowsRule, places: &[u8]) -> io::Result<()>
-    ensures { OnOk result (out.new.items ≡ out.old.items ++ rows_line number (field_of places.now rule.now)) }
+#[tactic(auto, using(crate::proofs::Texts::pieces))]
+fn push_rule(
+    out: &mut String,
+    number: usize,
+    rule: &RowsRule,
+    places: &[u8],
+) -> Result<(), AllocError>
+    ensures { OnOk result (string_bytes out.new ≡ string_bytes out.old ++ rows_line number (field_of places.now rule.now)) }
 {
     write!(out, "rule {number}{}", kind_words(rule.kind))?;
     let cells = rule.cells;
@@ -96,8 +95,8 @@ fn push_rule(out: &mut Vec<u8>, number: usize, rule: &RowsRule, places: &[u8]) -
 }
 
 /// The lines of the rules.
-pub fn push_rules(out: &mut Vec<u8>, rules: &[RowsRule], places: &[u8]) -> io::Result<()>
-    ensures { OnOk result (out.new.items ≡ out.old.items ++ numbered (λ r rule. rows_line r (field_of places.now rule)) 0 rules.now) }
+pub fn push_rules(out: &mut String, rules: &[RowsRule], places: &[u8]) -> Result<(), AllocError>
+    ensures { OnOk result (string_bytes out.new ≡ string_bytes out.old ++ numbered (λ r rule. rows_line r (field_of places.now rule)) 0 rules.now) }
 {
     for (number, rule) in rules.iter().enumerate() {
         push_rule(out, number, rule, places)?;

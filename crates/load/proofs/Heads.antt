@@ -13,10 +13,10 @@ use Rattle.sheets.specs.Tags.{tag_byte}
 use Rattle.load.specs.Fields.{Comes, Filled, Unfilled, Content, Headed}
 
 -- the first byte, and the first three
-pub first : (bs : List ℕ) (at : ℕ) → at < length bs → drop at bs ≡ get_or bs at 0 ∷ drop (at + 1) bs
+first : (bs : List ℕ) (at : ℕ) → at < length bs → drop at bs ≡ get_or bs at 0 ∷ drop (at + 1) bs
 first bs at h = drop_more bs at 0 h
 
-pub three : (bs : List ℕ) (at : ℕ) → at + 3 ≤ length bs → drop at bs ≡ get_or bs at 0 ∷ get_or bs (at + 1) 0 ∷ get_or bs (at + 2) 0 ∷ drop (at + 3) bs
+three : (bs : List ℕ) (at : ℕ) → at + 3 ≤ length bs → drop at bs ≡ get_or bs at 0 ∷ get_or bs (at + 1) 0 ∷ get_or bs (at + 2) 0 ∷ drop (at + 3) bs
 three bs at h =
     let b : at + 1 + 1 ≡ at + 2 = omega arith in
     let c : at + 2 + 1 ≡ at + 3 = omega arith in
@@ -34,7 +34,7 @@ module _ (s : Sheet) (e : Extent) (is : e ≡ extent_of s) where
   same_cells : e.cells ≡ length s.lists
   same_cells = ap (λ (x : Extent). x.cells) is
 
-  pub comes_fits : (t : Tag) → Comes t e → Fits s (tag_byte t)
+  comes_fits : (t : Tag) → Comes t e → Fits s (tag_byte t)
   comes_fits Cell h = cell (nil_from_length s.rows (sym same_rules ∙ h.0)) (nil_from_length s.formulas (sym same_formulas ∙ h.1))
   comes_fits Rows h = rows (nil_from_length s.formulas (sym same_formulas ∙ h))
   comes_fits Formula h = formula
@@ -77,59 +77,65 @@ module _ (s : Sheet) (e : Extent) (is : e ≡ extent_of s) where
     pub past : length file ≤ at → Wrong s at (drop at file) (Cut at)
     past h = wrong_at [] (Cut at) (drop_all at file h) no_end
 
-    pub no_tag : at < length file → ((t : Tag) → get_or file at 0 ≢ tag_byte t) → Wrong s at (drop at file) (Misplaced at)
-    no_tag h n = wrong_at _ _ (first file at h) (bad_tag (no_fits (get_or file at 0) n))
+    -- its first byte
+    module _ (byte : ℕ) (there : (at < length file) × ((d : ℕ) → byte ≡ get_or file at d)) where
+      from_byte : drop at file ≡ byte ∷ drop (at + 1) file
+      from_byte = first file at there.0 ∙ ap (λ x. x ∷ drop (at + 1) file) (sym (there.1 0))
 
-    pub misplaced : (t : Tag) → at < length file → get_or file at 0 ≡ tag_byte t → (Comes t e → ⊥) → Wrong s at (drop at file) (Misplaced at)
-    misplaced t h b n = wrong_at _ _ (first file at h) (bad_tag (λ f. n (fits_any t (get_or file at 0) b f)))
+      pub no_tag : ((t : Tag) → byte ≢ tag_byte t) → Wrong s at (drop at file) (Misplaced at)
+      no_tag n = wrong_at _ _ from_byte (bad_tag (no_fits byte n))
 
-    pub cut : (t : Tag) → at < length file → get_or file at 0 ≡ tag_byte t → Comes t e → length file < at + 3 → Wrong s at (drop at file) (Cut at)
-    cut t h b c short = wrong_at _ _ (first file at h) (cut_head (subst (Fits s) (sym b) (comes_fits t c)) (omega (arith, length-drop (at + 1) file)))
+      -- which is a tag
+      module _ (t : Tag) (b : byte ≡ tag_byte t) where
+        pub misplaced : (Comes t e → ⊥) → Wrong s at (drop at file) (Misplaced at)
+        misplaced n = wrong_at _ _ from_byte (bad_tag (λ f. n (fits_any t byte b f)))
 
-    module _ (t : Tag) (b : get_or file at 0 ≡ tag_byte t) (room : at + 3 ≤ length file) where
-      abbrev high : ℕ
-      high = get_or file (at + 1) 0
+        pub cut : Comes t e → length file < at + 3 → Wrong s at (drop at file) (Cut at)
+        cut c short = wrong_at _ _ from_byte (cut_head (subst (Fits s) (sym b) (comes_fits t c)) (omega (arith, length-drop (at + 1) file)))
 
-      abbrev low : ℕ
-      low = get_or file (at + 2) 0
+        abbrev high : ℕ
+        high = get_or file (at + 1) 0
 
-      pub bytes : drop at file ≡ tag_byte t ∷ high ∷ low ∷ drop (at + 3) file
-      bytes = three file at room ∙ ap (λ x. x ∷ high ∷ low ∷ drop (at + 3) file) b
+        abbrev low : ℕ
+        low = get_or file (at + 2) 0
 
-      -- its length as it was read
-      module _ (size : ℕ) (read : size ≡ high * 256 + low) where
-        pub long : tag_byte t ≡ 4 → size ≢ 0 → Wrong s at (drop at file) (Misplaced at)
-        long i n = wrong_at _ _ (bytes ∙ ap (λ x. x ∷ high ∷ low ∷ drop (at + 3) file) i) (long_end (λ z. n (read ∙ z)))
+        -- its length as it was read
+        module _ (size : ℕ) (read : size ≡ high * 256 + low) (room : at + 3 ≤ length file) where
+          bytes : drop at file ≡ tag_byte t ∷ high ∷ low ∷ drop (at + 3) file
+          bytes = three file at room ∙ ap (λ x. x ∷ high ∷ low ∷ drop (at + 3) file) (sym (there.1 0) ∙ b)
 
-        pub beyond : tag_byte t ≡ 4 → size ≡ 0 → at + 3 < length file → Wrong s at (drop at file) (Misplaced (at + 3))
-        beyond i z more =
-            let h : high ≡ 0 = omega arith in
-            let l : low ≡ 0 = omega arith in
-            wrong_at _ _ (bytes ∙ (λ k. i k ∷ h k ∷ l k ∷ first file (at + 3) more k)) after_end
+          pub long : tag_byte t ≡ 4 → size ≢ 0 → Wrong s at (drop at file) (Misplaced at)
+          long i n = wrong_at _ _ (bytes ∙ ap (λ x. x ∷ high ∷ low ∷ drop (at + 3) file) i) (long_end (λ z. n (read ∙ z)))
 
-        pub ended : tag_byte t ≡ 4 → size ≡ 0 → length file ≡ at + 3 → drop at file ≡ 4 ∷ 0 ∷ 0 ∷ []
-        ended i z last =
-            let h : high ≡ 0 = omega arith in
-            let l : low ≡ 0 = omega arith in
-            bytes ∙ (λ k. i k ∷ h k ∷ l k ∷ drop_all (at + 3) file (omega arith) k)
+          pub beyond : tag_byte t ≡ 4 → size ≡ 0 → at + 3 < length file → Wrong s at (drop at file) (Misplaced (at + 3))
+          beyond i z more =
+              let h : high ≡ 0 = omega arith in
+              let l : low ≡ 0 = omega arith in
+              wrong_at _ _ (bytes ∙ (λ k. i k ∷ h k ∷ l k ∷ first file (at + 3) more k)) after_end
 
-        pub short : tag_byte t ≢ 4 → Comes t e → length file < at + 3 + size → Wrong s at (drop at file) (Cut at)
-        short n c less = wrong_at _ _ bytes (cut_content (comes_fits t c) n (omega (arith, length-drop (at + 3) file)))
+          pub ended : tag_byte t ≡ 4 → size ≡ 0 → length file ≡ at + 3 → drop at file ≡ 4 ∷ 0 ∷ 0 ∷ []
+          ended i z last =
+              let h : high ≡ 0 = omega arith in
+              let l : low ≡ 0 = omega arith in
+              bytes ∙ (λ k. i k ∷ h k ∷ l k ∷ drop_all (at + 3) file (omega arith) k)
 
-        pub surplus : tag_byte t ≢ 4 → Comes t e → at + 3 + size ≤ length file → Filled t e → Wrong s at (drop at file) (Many at)
-        surplus n c fits f = wrong_at _ _ bytes (too_many (comes_fits t c) n (omega (arith, length-drop (at + 3) file)) (filled_full t f))
+          pub short : tag_byte t ≢ 4 → Comes t e → length file < at + 3 + size → Wrong s at (drop at file) (Cut at)
+          short n c less = wrong_at _ _ bytes (cut_content (comes_fits t c) n (omega (arith, length-drop (at + 3) file)))
 
-        pub content : tag_byte t ≢ 4 → Comes t e → at + 3 + size ≤ length file → (Filled t e → ⊥) → Content s (drop at file) (tag_byte t) size
-        content n c fits f = record {
-          high = high;
-          low = low;
-          rest = drop (at + 3) file;
-          is = bytes;
-          long = read;
-          whole = omega (arith, length-drop (at + 3) file);
-          fits = comes_fits t c;
-          room = λ x. f (full_filled t n x);
-        }
+          pub surplus : tag_byte t ≢ 4 → Comes t e → at + 3 + size ≤ length file → Filled t e → Wrong s at (drop at file) (Many at)
+          surplus n c fits f = wrong_at _ _ bytes (too_many (comes_fits t c) n (omega (arith, length-drop (at + 3) file)) (filled_full t f))
+
+          pub content : tag_byte t ≢ 4 → Comes t e → at + 3 + size ≤ length file → (Filled t e → ⊥) → Content s (drop at file) (tag_byte t) size
+          content n c fits f = record {
+            high = high;
+            low = low;
+            rest = drop (at + 3) file;
+            is = bytes;
+            long = read;
+            whole = omega (arith, length-drop (at + 3) file);
+            fits = comes_fits t c;
+            room = λ x. f (full_filled t n x);
+          }
 
 -- one more is not too many
 pub unfilled : (t : Tag) (e : Extent) → e.cells ≤ 64 → e.rules + e.formulas ≤ 64 → (Filled t e → ⊥) → Unfilled t e

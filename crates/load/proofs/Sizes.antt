@@ -1,10 +1,10 @@
 -- Stores of the same sizes. Assumes nothing.
-use Rattle.std.proofs.Common.{◌≡◌, map, length, replicate, pos, sym, refl, ap, ◌∙◌, arith}
+use Rattle.std.proofs.Common.{◌≡◌, map, length, replicate, pos, sym, refl, ap, ◌∙◌}
 use Rattle.std.specs.List.{flat_map}
 use lib.ListN.{length-replicate}
 use Rattle.formulas.specs.declared.node.Node.TheVariants.{Free}
 use Rattle.sheets.specs.Sheet.{Sheet, empty}
-use Rattle.sheets.specs.Stored.{Contents, Enough, zero_rule, zero_formula, filled, places_of, rules_of, formulas_of, nodes_of, stored, zeroed}
+use Rattle.sheets.specs.Stored.{Contents, zero_rule, zero_formula, filled, places_of, rules_of, formulas_of, nodes_of, stored, zeroed}
 use Rattle.sheets.proofs.Filled.{filled_none}
 use Rattle.load.specs.Fields.{SameSizes}
 
@@ -52,6 +52,9 @@ stored_same {a} s p = λ i. record {
   nodes = filled Free (p.nodes i) (nodes_of 0 s.formulas);
 }
 
+pub stored_again : {a b : Contents} (s : Sheet) → SameSizes a b → b ≡ stored a s → b ≡ stored b s
+stored_again s p i = i ∙ sym (stored_same s p)
+
 -- zero stores hold the empty sheet
 pub zero_empty : (c : Contents) → zeroed c ≡ stored c empty
 zero_empty c = λ i. record {
@@ -61,14 +64,4 @@ zero_empty c = λ i. record {
   places = sym (filled_none 0 (length c.places)) i;
   formulas = sym (filled_none zero_formula (length c.formulas)) i;
   nodes = sym (filled_none Free (length c.nodes)) i;
-}
-
-pub enough_same : {a b : Contents} → SameSizes a b → Enough a → Enough b
-enough_same p g = record {
-  lengths = omega (arith, p.lengths, g.lengths);
-  numbers = omega (arith, p.numbers, g.numbers);
-  rules = omega (arith, p.rules, g.rules);
-  places = omega (arith, p.places, g.places);
-  formulas = omega (arith, p.formulas, g.formulas);
-  nodes = omega (arith, p.nodes, g.nodes);
 }

@@ -1,15 +1,14 @@
 -- The words of the inner functions' contracts: a field's head, and what a field adds. Assumes nothing.
-use Rattle.std.specs.Prelude.{◌≡◌, ℕ, ◌+◌, ◌*◌, ◌<◌, ◌≤◌, List, [], ◌∷◌, ◌++◌, length, drop, ℤ}
+use Rattle.std.specs.Prelude.{◌≡◌, ℕ, ◌+◌, ◌*◌, ◌<◌, ◌≤◌, List, [], ◌∷◌, ◌++◌, length, drop}
 use Rattle.formulas.specs.declared.fault.FormulaFault.{FormulaFault}
 use Rattle.formulas.specs.Faults.{First}
-use Rattle.formulas.specs.Tree.{Condition, text}
 use Rattle.sheets.specs.declared.stores.Extent.{Extent}
-use Rattle.sheets.specs.Sheet.{Sheet, RowsField, bytes_of, list_bytes, rows_bytes, GoodList, GoodRows, GoodFormula, Good, with_list, with_rows, with_formula}
-use Rattle.sheets.specs.Reading.{Fits, Full, ReadAs}
-use Rattle.sheets.specs.Stored.{Contents, Enough, stored, extent_of}
+use Rattle.sheets.specs.Sheet.{Sheet, bytes_of, Good}
+use Rattle.sheets.specs.Reading.{Fits, Full}
+use Rattle.sheets.specs.Stored.{Contents, held, stored, extent_of}
 use Rattle.sheets.specs.declared.tag.Tag.{Tag}
 use Rattle.sheets.specs.declared.tag.Tag.TheVariants.{Cell, Rows, Formula, End}
-use Rattle.load.specs.declared.next.Next.{Next}
+use Rattle.load.specs.declared.loading.Loading.{Loading}
 
 -- after so much, a field of this tag can come
 abbrev pub Comes : Tag → Extent → Type 0
@@ -56,58 +55,12 @@ pub record Begun (file : List ℕ) (at : ℕ) (s : Sheet) : Type 0 where
   pub here : at ≡ length (bytes_of s)
   pub said : file ≡ bytes_of s ++ drop at file
 
--- there is room in the stores for whatever can follow
-pub record Room (file : List ℕ) (at : ℕ) (e : Extent) (c : Contents) : Type 0 where
-  pub enough : Enough c
+-- the file is short, and what is taken of two stores is at most a place for each byte before the next field
+pub record Room (file : List ℕ) (at : ℕ) (e : Extent) : Type 0 where
   pub short : length file ≤ 32768
   pub within : at ≤ length file
-  pub cells : e.cells ≤ 64
-  pub rules : e.rules + e.formulas ≤ 64
   pub places : e.places ≤ at
   pub nodes : e.nodes ≤ at
-
--- a cell's list was read, and stands after the sheet s
-pub record AddsList (content : List ℕ) (before : Contents) (s : Sheet) (after : Contents) (e : Extent) : Type 0 where
-  pub list : List ℤ
-  pub good : GoodList list
-  pub said : content ≡ list_bytes list
-  pub stores : after ≡ stored before (with_list s list)
-  pub extent : e ≡ extent_of (with_list s list)
-
--- the same of a rule by rows
-pub record AddsRows (content : List ℕ) (before : Contents) (s : Sheet) (after : Contents) (e : Extent) : Type 0 where
-  pub rule : RowsField
-  pub good : GoodRows s.lists rule
-  pub said : content ≡ rows_bytes rule
-  pub stores : after ≡ stored before (with_rows s rule)
-  pub extent : e ≡ extent_of (with_rows s rule)
-
--- the same of a formula
-pub record AddsFormula (content : List ℕ) (before : Contents) (s : Sheet) (after : Contents) (e : Extent) : Type 0 where
-  pub formula : Condition
-  pub good : GoodFormula s.lists formula
-  pub said : content ≡ text formula
-  pub stores : after ≡ stored before (with_formula s formula)
-  pub extent : e ≡ extent_of (with_formula s formula)
-
--- a formula's first fault, told by its place in the file, in which the formula begins at base
-pub record Inside (cells : ℕ) (s : List ℕ) (base : ℕ) (e : FormulaFault) : Type 0 where
-  pub at : ℕ
-  pub first : First cells s e.flaw at
-  pub place : e.offset ≡ base + at
-
--- the file has said s, and its end field is the last
-pub record AtEnd (file : List ℕ) (before : Contents) (s : Sheet) (after : Contents) : Type 0 where
-  pub read : ReadAs file s
-  pub stores : after ≡ stored before s
-
--- one more field was read, which stands in the stores too
-pub record Advanced (file : List ℕ) (before : Contents) (at : ℕ) (after : Contents) (n : Next) : Type 0 where
-  pub sheet : Sheet
-  pub begun : Begun file n.at sheet
-  pub stores : after ≡ stored before sheet
-  pub extent : n.extent ≡ extent_of sheet
-  pub further : at < n.at
 
 -- every store is as long as before
 pub record SameSizes (before after : Contents) : Type 0 where
@@ -117,3 +70,33 @@ pub record SameSizes (before after : Contents) : Type 0 where
   pub places : length after.places ≡ length before.places
   pub formulas : length after.formulas ≡ length before.formulas
   pub nodes : length after.nodes ≡ length before.nodes
+
+-- both hold the same loan of stores, which are as long as before
+pub record Kept (before after : Loading) : Type 0 where
+  pub loan : after.stores.ghost_name ≡ before.stores.ghost_name
+  pub sizes : SameSizes (held before.stores.now) (held after.stores.now)
+
+-- the sheet stands in the stores, and takes so much of them
+pub record Holds (l : Loading) (s : Sheet) : Type 0 where
+  pub stores : held l.stores.now ≡ stored (held l.stores.now) s
+  pub extent : l.extent ≡ extent_of s
+
+-- the content is that of a good part, which stands in the stores with the sheet before it
+pub record Added {X : Type 0} (IsGood : X → Type 0) (bytes : X → List ℕ) (sheet_with : X → Sheet) (content : List ℕ) (after : Loading) : Type 0 where
+  pub part : X
+  pub good : IsGood part
+  pub said : content ≡ bytes part
+  pub holds : Holds after (sheet_with part)
+
+-- a formula's first fault, told by its place in the file, in which the formula begins at base
+pub record Inside (cells : ℕ) (s : List ℕ) (base : ℕ) (e : FormulaFault) : Type 0 where
+  pub at : ℕ
+  pub first : First cells s e.flaw at
+  pub place : e.offset ≡ base + at
+
+-- one more field was read, which stands in the stores too
+pub record Advanced (file : List ℕ) (at : ℕ) (after : Loading) (next : ℕ) : Type 0 where
+  pub sheet : Sheet
+  pub begun : Begun file next sheet
+  pub holds : Holds after sheet
+  pub further : at < next

@@ -7,32 +7,10 @@ ghost use Rattle.sheets.specs.Reading.{Wrong};
 ghost use Rattle.load.specs.Fields.{Comes, Filled, Unfilled, Headed};
 
 use crate::field::Head;
+use crate::loading::Loading;
 use sheets::fault::LoadFault;
-use sheets::stores::{CELLS, Extent, RULES};
+use sheets::stores::{CELLS, RULES};
 use sheets::tag::Tag;
-
-/// Whether a field of this tag can come: cells before rules by rows, these before rules by formulas, then the end.
-fn comes(tag: Tag, extent: Extent) -> bool
-    ensures { Decides result (Comes tag extent) }
-{
-    match tag {
-        Tag::Cell => extent.rules == 0 && extent.formulas == 0,
-        Tag::Rows => extent.formulas == 0,
-        Tag::Formula | Tag::End => true,
-    }
-}
-
-/// Whether a field of this tag would be the 65th cell or the 65th rule.
-fn is_full(tag: Tag, extent: Extent) -> bool
-    requires { extent.rules + extent.formulas ≤ 64 }
-    ensures { Decides result (Filled tag extent) }
-{
-    match tag {
-        Tag::Cell => extent.cells == CELLS,
-        Tag::Rows | Tag::Formula => extent.rules + extent.formulas == RULES,
-        Tag::End => false,
-    }
-}
 
 /// The end field has no content, and nothing comes after it.
 fn check_end(file: &[u8], at: usize, size: usize) -> Result<(), LoadFault>
@@ -50,56 +28,71 @@ fn check_end(file: &[u8], at: usize, size: usize) -> Result<(), LoadFault>
     Ok(())
 }
 
-/// Any other field has all of its content, and is not one too many.
-fn check_content(
-    file: &[u8],
-    at: usize,
-    size: usize,
-    tag: Tag,
-    extent: Extent,
-) -> Result<(), LoadFault>
-    requires within { at + 3 ≤ length file.now }
-    requires rules { extent.rules + extent.formulas ≤ 64 }
-    ensures { MatchResult result
-        (λ _. (at + 3 + size ≤ length file.now) × (Filled tag extent → ⊥))
-        (λ e. ((e ≡ Cut at) × (length file.now < at + 3 + size)) ⊎ ((e ≡ Many at) × (at + 3 + size ≤ length file.now) × Filled tag extent)) }
-{
-    if file.len() - at - 3 < size {
-        return Err(LoadFault::Cut(at));
+impl Loading<'_, '_> {
+    /// Whether a field of this tag can come: cells before rules by rows, these before rules by formulas, then the end.
+    fn comes(&self, tag: Tag) -> bool
+        ensures { Decides result (Comes tag self.now.extent) }
+    {
+        match tag {
+            Tag::Cell => self.extent.rules == 0 && self.extent.formulas == 0,
+            Tag::Rows => self.extent.formulas == 0,
+            Tag::Formula | Tag::End => true,
+        }
     }
-    if is_full(tag, extent) {
-        return Err(LoadFault::Many(at));
-    }
-    Ok(())
-}
 
-/// The head of the field at `at`. Its tag is checked first, then its length, then whether it is one too many.
-pub fn head(file: &[u8], at: usize, extent: Extent) -> Result<Head, LoadFault>
-    requires within { at ≤ length file.now }
-    requires cells { extent.cells ≤ 64 }
-    requires rules { extent.rules + extent.formulas ≤ 64 }
-    ensures inside { IfOk result (λ h. at + 3 + h.length ≤ length file.now) }
-    ensures room { IfOk result (λ h. Unfilled h.tag extent) }
-    ensures decided { (s : Sheet) → extent ≡ extent_of s → MatchResult result
-        (λ h. Headed s (drop at file.now) h.tag h.length)
-        (λ e. Wrong s at (drop at file.now) e) }
-{
-    if at >= file.len() {
-        return Err(LoadFault::Cut(at));
+    /// Whether a field of this tag would be the 65th cell or the 65th rule.
+    fn is_full(&self, tag: Tag) -> bool
+        ensures { Decides result (Filled tag self.now.extent) }
+    {
+        match tag {
+            Tag::Cell => self.extent.cells == CELLS,
+            Tag::Rows | Tag::Formula => self.extent.rules + self.extent.formulas == RULES,
+            Tag::End => false,
+        }
     }
-    let Ok(tag) = Tag::try_from(file[at]) else {
-        return Err(LoadFault::Tag(at));
-    };
-    if !comes(tag, extent) {
-        return Err(LoadFault::Tag(at));
+
+    /// Any field but the end has all of its content, and is not one too many.
+    fn check_content(&self, file: &[u8], at: usize, size: usize, tag: Tag) -> Result<(), LoadFault>
+        requires { at + 3 ≤ length file.now }
+        ensures { MatchResult result
+            (λ _. (at + 3 + size ≤ length file.now) × (Filled tag self.now.extent → ⊥))
+            (λ e. ((e ≡ Cut at) × (length file.now < at + 3 + size)) ⊎ ((e ≡ Many at) × (at + 3 + size ≤ length file.now) × Filled tag self.now.extent)) }
+    {
+        if file.len() - at - 3 < size {
+            return Err(LoadFault::Cut(at));
+        }
+        if self.is_full(tag) {
+            return Err(LoadFault::Many(at));
+        }
+        Ok(())
     }
-    if file.len() - at < 3 {
-        return Err(LoadFault::Cut(at));
+
+    /// The head of the field at `at`. Its tag is checked first, then its length, then whether it is one too many.
+    pub(crate) fn head(&self, file: &[u8], at: usize) -> Result<Head, LoadFault>
+        requires { at ≤ length file.now }
+        ensures inside { IfOk result (λ h. at + 3 + h.length ≤ length file.now) }
+        ensures room { IfOk result (λ h. Unfilled h.tag self.now.extent) }
+        ensures decided { (s : Sheet) → self.now.extent ≡ extent_of s → MatchResult result
+            (λ h. Headed s (drop at file.now) h.tag h.length)
+            (λ e. Wrong s at (drop at file.now) e) }
+    {
+        let Some(&byte) = file.get(at) else {
+            return Err(LoadFault::Cut(at));
+        };
+        let Ok(tag) = Tag::try_from(byte) else {
+            return Err(LoadFault::Tag(at));
+        };
+        if !self.comes(tag) {
+            return Err(LoadFault::Tag(at));
+        }
+        if file.len() - at < 3 {
+            return Err(LoadFault::Cut(at));
+        }
+        let length = u16::from_be_bytes([file[at + 1], file[at + 2]]) as usize;
+        match tag {
+            Tag::End => check_end(file, at, length)?,
+            Tag::Cell | Tag::Rows | Tag::Formula => self.check_content(file, at, length, tag)?,
+        }
+        Ok(Head { tag, length })
     }
-    let length = u16::from_be_bytes([file[at + 1], file[at + 2]]) as usize;
-    match tag {
-        Tag::End => check_end(file, at, length)?,
-        Tag::Cell | Tag::Rows | Tag::Formula => check_content(file, at, length, tag, extent)?,
-    }
-    Ok(Head { tag, length })
 }

@@ -5,4 +5,4 @@ mod content;
 mod field;
 mod head;
 pub mod load;
-mod next;
+mod loading;

@@ -1,14 +1,12 @@
 //! Load: a whole file.
 ghost use Rattle.std.specs.Prelude.{◌≡◌, ◌≤◌, length, Decides, MatchOption, MatchResult};
 ghost use Rattle.sheets.specs.Sheet.{Sheet, empty};
-ghost use Rattle.sheets.specs.Stored.{Contents, Enough, held, stored, zeroed, extent_of};
-ghost use Rattle.sheets.specs.Reading.{RefusedWith};
-ghost use Rattle.load.specs.Fields.{Begun, Room, Advanced, AtEnd, SameSizes};
+ghost use Rattle.sheets.specs.Stored.{Enough, held, zeroed};
+ghost use Rattle.sheets.specs.Reading.{ReadAs, RefusedWith};
+ghost use Rattle.load.specs.Fields.{Kept, Holds, Begun, Room, Advanced};
 ghost use Rattle.load.specs.Load.{ReadSheet, Refused, Exact};
 
-use crate::content::{cell, formula, rows};
-use crate::head::head;
-use crate::next::Next;
+use crate::loading::Loading;
 use formulas::node::Node;
 use reader::formula::{Formula, NODES};
 use rows::rule::RowsRule;
@@ -16,48 +14,42 @@ use sheets::fault::LoadFault;
 use sheets::stores::{CELLS, Extent, FILE, NUMBERS, PLACES, RULES, Stores};
 use sheets::tag::Tag;
 
-/// The field at `at`, stored after what is there; nothing is left to read after the end field.
-fn field(
-    file: &[u8],
-    at: usize,
-    stores: &mut Stores<'_>,
-    extent: Extent,
-) -> Result<Option<Next>, LoadFault>
-    requires { Room file.now at extent (held stores.old) }
-    ensures sized { SameSizes (held stores.old) (held stores.new) }
-    ensures advances { (before : Contents) (s : Sheet) → Enough before → Begun file.now at s → held stores.old ≡ stored before s → extent ≡ extent_of s → MatchResult result
-        (λ o. MatchOption o (AtEnd file.now before s (held stores.new)) (λ n. Advanced file.now before at (held stores.new) n))
-        (λ e. RefusedWith file.now e) }
-{
-    let head = head(file, at, extent)?;
-    let end = at + 3 + head.length;
-    let content = &file[at + 3..end];
-    let extent = match head.tag {
-        Tag::Cell => cell(content, at, stores, extent)?,
-        Tag::Rows => rows(content, at, stores, extent)?,
-        Tag::Formula => formula(content, at, stores, extent)?,
-        Tag::End => return Ok(None),
-    };
-    Ok(Some(Next { at: end, extent }))
-}
-
-/// All fields, in order.
-fn fields(file: &[u8], stores: &mut Stores<'_>) -> Result<Extent, LoadFault>
-    requires short { length file.now ≤ 32768 }
-    requires enough { Enough (held stores.old) }
-    requires zero { held stores.old ≡ stored (held stores.old) empty }
-    ensures sized { SameSizes (held stores.old) (held stores.new) }
-    ensures decided { MatchResult result
-        (λ e. ReadSheet file.now (held stores.old) (held stores.new) e)
-        (λ e. RefusedWith file.now e) }
-{
-    let mut at = 0;
-    let mut extent = Extent::default();
-    while let Some(next) = field(file, at, stores, extent)? {
-        at = next.at;
-        extent = next.extent;
+impl Loading<'_, '_> {
+    /// The field at `at`, stored after what is there, and where the next one begins; none begins after the end field.
+    fn field(&mut self, file: &[u8], at: usize) -> Result<Option<usize>, LoadFault>
+        requires { Room file.now at self.old.extent }
+        ensures kept { Kept self.old self.new }
+        ensures advances { (s : Sheet) → Begun file.now at s → Holds self.old s → MatchResult result
+            (λ o. MatchOption o (ReadAs file.now s × Holds self.new s) (λ next. Advanced file.now at self.new next))
+            (λ e. RefusedWith file.now e) }
+    {
+        let head = self.head(file, at)?;
+        let end = at + 3 + head.length;
+        let content = &file[at + 3..end];
+        match head.tag {
+            Tag::Cell => self.cell(content, at)?,
+            Tag::Rows => self.rows(content, at)?,
+            Tag::Formula => self.formula(content, at)?,
+            Tag::End => return Ok(None),
+        }
+        Ok(Some(end))
     }
-    Ok(extent)
+
+    /// All fields, in order.
+    fn fields(&mut self, file: &[u8]) -> Result<(), LoadFault>
+        requires short { length file.now ≤ 32768 }
+        requires blank { Holds self.old empty }
+        ensures kept { Kept self.old self.new }
+        ensures decided { MatchResult result
+            (λ _. (s : Sheet) × ReadAs file.now s × Holds self.new s)
+            (λ e. RefusedWith file.now e) }
+    {
+        let mut at = 0;
+        while let Some(next) = self.field(file, at)? {
+            at = next;
+        }
+        Ok(())
+    }
 }
 
 /// Whether every store has its published size.
@@ -96,8 +88,12 @@ pub fn load(file: &[u8], stores: &mut Stores<'_>) -> Result<Extent, LoadFault>
         return Err(LoadFault::Size);
     }
     clear(stores);
-    match fields(file, stores) {
-        Ok(extent) => Ok(extent),
+    let mut loading = Loading {
+        stores,
+        extent: Extent::default(),
+    };
+    match loading.fields(file) {
+        Ok(()) => Ok(loading.extent),
         Err(fault) => {
             clear(stores);
             Err(fault)

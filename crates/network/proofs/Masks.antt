@@ -1,10 +1,10 @@
 -- The masks of allowed places. Assumes nothing.
 use Rattle.std.proofs.Common.{◌≡◌, ℕ, zero, suc, ◌^◌, ◌<◌, ◌≤◌, List, [], ◌∷◌, length, get_or, set, sym, ap, ◌∙◌, subst, ⊎_elim, arith}
-use lib.Bits.{bit_and, and_zero_r}
+use lib.Bits.{bit_and}
 use Rattle.std.proofs.lemmas.List.{get_or-set_same, get_or-set_other}
 use Rattle.std.proofs.lemmas.Bool.{cases_eq, cases_lt}
 use Rattle.bits.specs.Sets.{In}
-use Rattle.bits.proofs.Bits.{keep_same, keep_other, has_zero}
+use Rattle.bits.proofs.Bits.{pow_same, has_pow, and_has, has_and, has_zero}
 use Rattle.network.specs.Tries.{Allows}
 
 -- four numbers by their index
@@ -18,20 +18,17 @@ four a b c d f p q r s (suc (suc (suc (suc k)))) h = absurd (omega arith)
 -- of a set, the place v alone: m is the mask of v, or empty where v is no place
 module _ (s v m : ℕ) (one : v < 64 → m ≡ 2 ^ v) (none : 64 ≤ v → m ≡ 0) where
   kept : (w : ℕ) → (w < 64) × In (bit_and s m) w → ((w < 64) × In s w) × (w ≡ v)
-  kept w a = ⊎_elim
-      (λ low.
-      let at : In (bit_and s (2 ^ v)) w = subst (λ x. In (bit_and s x) w) (one low) a.1 in
+  kept w a =
+      let b = and_has s m w a.1 in
       ⊎_elim
-      (λ e. ((a.0, subst (In s) (sym e) (sym (keep_same s v) ∙ subst (In (bit_and s (2 ^ v))) e at)), e))
-      (λ ne. absurd (omega (arith, at, keep_other s v w ne)))
-      (cases_eq w v))
-      (λ high. absurd (has_zero w (subst (λ x. In x w) (ap (bit_and s) (none high) ∙ and_zero_r s) a.1)))
+      (λ low. ((a.0, b.0), has_pow v w (subst (λ x. In x w) (one low) b.1)))
+      (λ high. absurd (has_zero w (subst (λ x. In x w) (none high) b.1)))
       (cases_lt v 64)
 
   keeps : (w : ℕ) → ((w < 64) × In s w) × (w ≡ v) → (w < 64) × In (bit_and s m) w
   keeps w a =
       let low : v < 64 = omega (arith, a.0.0, a.1) in
-      (a.0.0, subst (In (bit_and s m)) (sym a.1) (subst (λ x. In (bit_and s x) v) (sym (one low)) (keep_same s v ∙ subst (In s) a.1 a.0.1)))
+      (a.0.0, has_and s m w a.0.1 (subst (In m) (sym a.1) (subst (λ x. In x v) (sym (one low)) (pow_same v))))
 
 module _ (cells : List ℕ) (i v : ℕ) (sets base : List ℕ) (m : ℕ) (one : v < 64 → m ≡ 2 ^ v) (none : 64 ≤ v → m ≡ 0)
     (long : length base ≡ 4) (here : i < 4) (is : (k : ℕ) → k < 4 → get_or base k 0 ≡ get_or sets (get_or cells k 0) 0) where

@@ -26,6 +26,7 @@ impl<A: RuleBook, B: RuleBook> Joined<A, B> {
 }
 
 /// The number that a rule has in one of the two books.
+#[derive(Clone, Copy, Debug, PartialEq, Eq)]
 enum Found {
     First(u16),
     Second(u16),

@@ -5,7 +5,7 @@ ghost use Rattle.network.specs.Tries.{Allows, GoesOn, Tried};
 
 use bits::{has, only};
 
-// `length ≤ 4` stays a clause: masks are a part of an array of four, and no type says that of a slice.
+// `length ≤ 4` stays a clause: a struct round the masks would be made for it in each kind of book, and spare no line of code.
 /// Whether a row with an allowed place at each position passes a test; it stops at the first.
 pub fn some_row<F: Fn(&[u8]) -> bool>(masks: &[u64], passes: F) -> bool
     requires few { length masks.now ≤ 4 }
@@ -51,7 +51,7 @@ pub fn allowed(cells: [u8; 4], position: u8, place: u8, sets: &[u64]) -> [u64; 4
 }
 
 /// What remains of a cell, nothing where it is past the sets.
-fn remaining(sets: &[u64], cell: u8) -> u64
+pub fn remaining(sets: &[u64], cell: u8) -> u64
     ensures { result ≡ slice_index sets.now cell }
 {
     sets.get(cell as usize).copied().unwrap_or(0)

@@ -4,19 +4,7 @@ ghost use Rattle.calls.specs.History.{set_where};
 ghost use Rattle.calls.specs.Runs.{start_of, starts};
 ghost use Rattle.opening.specs.Pins.{held, LowestByte};
 
-use bits::{lowest, only, with};
-
-/// A whole list, as a set of places.
-fn whole(length: u8) -> u64
-    requires { «length» ≤ 64 }
-    ensures { result ≡ 2 ^ «length» - 1 }
-{
-    if length == 64 {
-        u64::MAX
-    } else {
-        (1 << length) - 1
-    }
-}
+use bits::{first, lowest, only, with};
 
 /// What a cell starts with: its pin alone, if that is a place of its list, or its whole list.
 fn start_of(length: u8, pin: Option<u8>) -> u64
@@ -25,7 +13,7 @@ fn start_of(length: u8, pin: Option<u8>) -> u64
 {
     match pin {
         Some(place) if place < length => only(place),
-        _ => whole(length),
+        _ => first(length),
     }
 }
 
@@ -36,6 +24,7 @@ pub fn set_starts(lengths: &[u8], pins: &[Option<u8>; 64], start: &mut [u64])
     requires short { (c : ℕ) → c < length lengths.now → slice_index lengths.now c ≤ 64 }
     ensures { start.new ≡ starts lengths.now (λ c. held (slice_index lengths.now c) (slice_index_or pins.now c None)) }
 {
+    // By index: as a `zip` the proof did not close; nothing is known of what a `zip` of `iter_mut` writes.
     for (cell, set) in start.iter_mut().enumerate() {
         *set = start_of(lengths[cell], pins[cell]);
     }
@@ -55,7 +44,8 @@ pub fn rules_on(switches: &[bool; 64], count: u16) -> u64
     rules
 }
 
-/// The byte that stands for a set: its lowest place, or 64 where it is empty, the number that hosts are promised.
+/// The byte that stands for a set: its lowest place, or 64 where it is empty.
+// A byte and no `Option`: hosts are promised it.
 fn lowest_byte(places: u64) -> u8
     ensures { LowestByte places result }
 {
@@ -68,6 +58,7 @@ pub fn write_lowest(sets: &[u64], filling: &mut [u8])
     ensures places { (c : ℕ) → c < length sets.now → LowestByte (slice_index sets.now c) (slice_index filling.new c) }
     ensures later { drop (length sets.now) filling.new ≡ drop (length sets.now) filling.old }
 {
+    // By index: as a `zip` the proof did not close, as above.
     for (cell, set) in sets.iter().enumerate() {
         filling[cell] = lowest_byte(*set);
     }

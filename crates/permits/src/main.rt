@@ -31,7 +31,7 @@ fn answer(heap: Global, lines: &[String]) -> Result<String, AllocError> {
 fn refusal(heap: Global, line: u64) -> Result<String, AllocError>
     ensures { IfOk result (λ v. string_bytes v ≡ codes "LIST " ++ (numeral line ++ (10 ∷ []))) }
 {
-    Ok(format!(in heap; "LIST {line}\n")?)
+    format!(in heap; "LIST {line}\n")
 }
 
 /// All lines of standard input.

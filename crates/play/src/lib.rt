@@ -18,6 +18,7 @@ use network::book::RuleBook;
 use session::session::Session;
 
 /// Makes one call.
+// Calls are the host's data, so they are an enum and no closures.
 fn make<B: RuleBook, C: Chooser>(session: &mut Session<'_, B, C>, step: &mut Step)
     ensures sheet { sheet_of B.RuleBook.meaning session.new ≡ sheet_of B.RuleBook.meaning session.old }
     ensures book { session.new.book ≡ session.old.book }

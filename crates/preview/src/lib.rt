@@ -2,9 +2,9 @@
 #![tactic(auto)]
 
 ghost use Rattle.std.specs.Prelude.{◌≡◌, ℕ, ◌≤◌, List, ◌++◌, length, IfOk, OnOk, string_bytes};
-ghost use Rattle.preview.specs.Preview.{Fit, Tells, Exactly};
+ghost use Rattle.preview.specs.Preview.{Tells, Exactly};
 
-use crate::lists::are_lists;
+use crate::lists::Lists;
 use crate::rows::{Trial, push_permits};
 use formulas::node::Node;
 use reader::formula::{NODES, read};
@@ -25,33 +25,31 @@ pub fn preview(
     ensures tells { IfOk result (λ v. Tells lengths.now numbers.now formula.now (string_bytes v)) }
     ensures exactly { IfOk result (λ v. Exactly lengths.now numbers.now formula.now (string_bytes v)) }
 {
-    if !are_lists(lengths, numbers) {
+    let Some(lists) = Lists::new(lengths, numbers) else {
         return String::from_str(heap, "LISTS\n");
-    }
+    };
     if formula.len() > NODES {
         return String::from_str(heap, "LONG\n");
     }
     let mut out = String::new(heap);
     let mut nodes = vec![in heap; Node::Free; NODES]?;
-    push_answer(&mut out, &mut nodes, lengths, numbers, formula)?;
+    push_answer(&mut out, &mut nodes, lists, formula)?;
     Ok(out)
 }
 
 /// The text for a formula that is not too long.
-fn push_answer<'l>(
+fn push_answer(
     out: &mut String,
     nodes: &mut [Node],
-    lengths: &'l [u8],
-    numbers: &'l [i32],
+    lists: Lists<'_>,
     formula: &[u8],
 ) -> Result<(), AllocError>
-    requires fit { Fit lengths.now numbers.now }
     requires short { length formula.now ≤ 32768 }
     requires store { length nodes.old ≡ 32768 }
-    ensures { OnOk result ((t : List ℕ) × (string_bytes out.new ≡ string_bytes out.old ++ t) × Tells lengths.now numbers.now formula.now t) }
+    ensures { OnOk result ((t : List ℕ) × (string_bytes out.new ≡ string_bytes out.old ++ t) × Tells lists.entry.lengths.now lists.entry.numbers.now formula.now t) }
 {
     let mut used = 0;
-    match read(formula, lengths.len() as u8, nodes, &mut used) {
+    match read(formula, lists.lengths.len() as u8, nodes, &mut used) {
         Err(fault) => push_fault(out, fault.flaw.number(), fault.offset),
         Ok(stored) => {
             let width = usize::from(stored.width);
@@ -59,8 +57,7 @@ fn push_answer<'l>(
                 nodes,
                 root: stored.root,
                 cells: &stored.cells[..width],
-                lengths,
-                numbers,
+                lists,
             };
             push_permits(out, &trial)
         }

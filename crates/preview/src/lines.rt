@@ -1,20 +1,10 @@
 //! The lines of the text.
-ghost use Rattle.std.specs.Prelude.{◌≡◌, [], ◌∷◌, ◌++◌, if◌then◌else◌, OnOk, nat_eq, string_bytes};
+ghost use Rattle.std.specs.Prelude.{◌≡◌, ◌++◌, OnOk, string_bytes};
 ghost use Rattle.preview.specs.Preview.{line, names, numbers_in};
 
 use judge::number_of;
 use std::alloc::AllocError;
-
-/// A blank before each word of a line but the first.
-fn push_blank(out: &mut String, place: usize) -> Result<(), AllocError>
-    ensures { OnOk result (string_bytes out.new ≡ string_bytes out.old ++ (if nat_eq place 0 then [] else 32 ∷ [])) }
-{
-    if place == 0 {
-        Ok(())
-    } else {
-        out.push_str(" ")
-    }
-}
+use text::push_separator;
 
 /// A line with the names of some cells.
 // A loop of its own, as that of the numbers is: a function for both would take a closure that writes, and say more of it than it saves.
@@ -22,7 +12,7 @@ pub fn push_names(out: &mut String, cells: &[u8]) -> Result<(), AllocError>
     ensures { OnOk result (string_bytes out.new ≡ string_bytes out.old ++ line (names cells.now)) }
 {
     for (place, cell) in cells.iter().enumerate() {
-        push_blank(out, place)?;
+        push_separator(out, " ", place)?;
         write!(out, "C{cell}")?;
     }
     out.push_str("\n")
@@ -33,7 +23,7 @@ pub fn push_row(out: &mut String, cells: &[u8], row: &[i32]) -> Result<(), Alloc
     ensures { OnOk result (string_bytes out.new ≡ string_bytes out.old ++ line (numbers_in row.now cells.now)) }
 {
     for (place, cell) in cells.iter().enumerate() {
-        push_blank(out, place)?;
+        push_separator(out, " ", place)?;
         write!(out, "{}", number_of(*cell, row))?;
     }
     out.push_str("\n")

@@ -7,10 +7,9 @@ use Rattle.formulas.specs.declared.fault.FormulaFault.{FormulaFault}
 use Rattle.formulas.specs.Tree.{text, noted, cells_of}
 use Rattle.formulas.specs.Faults.{next}
 use Rattle.formulas.specs.Layout.{layout, stored}
-use Rattle.formulas.specs.Reading.{Clear, Deep, Ends, Follows, ends, Awaits}
+use Rattle.formulas.specs.Reading.{Clear, Ends, Follows, ends, Awaits}
 use Rattle.formulas.proofs.Awaits.{await_start, after_condition}
-use Rattle.formulas.proofs.Levels.{deep_start}
-use Rattle.formulas.proofs.Clears.{clear_start, clear_condition}
+use Rattle.formulas.proofs.Clears.{clear_condition}
 use Rattle.formulas.proofs.Firsts.{first_grammar, first_cells, first_unique}
 use Rattle.formulas.proofs.Layouts.{size_layout}
 use Rattle.formulas.proofs.Exact.{accepted_not_refused}
@@ -19,10 +18,11 @@ use Rattle.reader.specs.declared.formula.Formula.{Formula}
 use Rattle.reader.specs.Mentions.{Holds, mentioned, named_from}
 use Rattle.reader.specs.declared.cursor.Text.{Text}
 use Rattle.reader.specs.declared.cursor.Cursor.{Cursor}
+use Rattle.reader.specs.declared.nested.Nested.{Nested}
 use Rattle.reader.specs.declared.store.Store.{Store}
 use Rattle.reader.specs.Places.{ahead, behind, FirstIn}
 use Rattle.reader.specs.Stores.{Room}
-use Rattle.reader.specs.Read.{outside, Ready, ReadOne, FirstOf}
+use Rattle.reader.specs.Read.{outside, ReadOne, FirstOf}
 use Rattle.reader.proofs.Refusals.{told}
 use Rattle.reader.proofs.Places.{ahead_in}
 use Rattle.reader.specs.Formula.{ReadFormula, Decided}
@@ -37,14 +37,10 @@ part_stored l new n m h e =
 pub await_first : (a : Cursor) → a.at ≡ 0 → Awaits [] (behind a)
 await_first a first = subst (λ k. Awaits [] (take k a.text.bytes.now)) (sym first) await_start
 
-pub ready_first : (a : Cursor) → a.at ≡ 0 → Ready a 1
-ready_first a first = record {
-  clear = subst (Clear a.text.cells a.text.bytes.now) (sym first) clear_start;
-  deep = subst (λ k. Deep a.text.bytes.now k 1) (sym first) (deep_start a.text.bytes.now);
-  shallow = omega arith;
-}
+module _ {start : Nested} {end : Cursor} {old new : Store} (many : start.at.text.cells ≤ 1000000) (first : start.at.at ≡ 0) (r : ReadOne start old new end) where
+  abbrev a : Cursor
+  a = start.at
 
-module _ {a end : Cursor} {old new : Store} (many : a.text.cells ≤ 1000000) (first : a.at ≡ 0) (r : ReadOne a 1 old new end) where
   abbrev s : List ℕ
   s = a.text.bytes.now
 
@@ -52,7 +48,7 @@ module _ {a end : Cursor} {old new : Store} (many : a.text.cells ≤ 1000000) (f
   stop = subst (Ends r.is) (ahead_in r.reads) r.ends
 
   clear : Clear a.text.cells s end.at
-  clear = let ready = ready_first a first in clear_condition many r.is ready.clear ready.deep r.reads.spans r.known r.shallow stop
+  clear = clear_condition many r.is start.ready.clear start.ready.deep r.reads.spans r.known r.shallow stop
 
   -- something stands behind it
   pub junk_behind : {e : FormulaFault} → e ≡ outside end.at → ahead end < 256 → FirstIn a e
@@ -95,7 +91,7 @@ module _ {a end : Cursor} {old new : Store} (many : a.text.cells ≤ 1000000) (f
         pub formula_read : (root : ℕ) → root ≡ new.used - 1 → named.count ≢ 0 → ReadFormula a.text.cells s old.nodes.now old.used new.nodes.now new.used (record { root = root; width = named.count; cells = named.cells })
         formula_read root is some = record {
           is = r.is;
-          accepted = record { said = said; known = r.known; shallow = omega (arith, r.shallow); some = omega (arith, held.count_is); few = held.few };
+          accepted = record { said = said; known = r.known; shallow = omega (arith, r.shallow, start.ready.some); some = omega (arith, held.count_is); few = held.few };
           nodes = r.nodes;
           count = r.count;
           root = is ∙ ap (λ m. m - 1) r.count;

@@ -1,9 +1,9 @@
 -- Places in a text. Assumes nothing.
-use Rattle.std.specs.Prelude.{◌≡◌, ℕ, List, ◌∷◌, take, drop}
+use Rattle.std.specs.Prelude.{◌≡◌, ℕ, ◌≤◌, List, ◌∷◌, take, drop}
 use Rattle.formulas.specs.declared.fault.FormulaFault.{FormulaFault}
 use Rattle.formulas.specs.Tree.{numeral}
 use Rattle.formulas.specs.Faults.{next, Digit, First}
-use Rattle.formulas.specs.Reading.{Spans, Clear, AwaitsSide}
+use Rattle.formulas.specs.Reading.{Spans, Clear, Deep, AwaitsSide}
 use Rattle.reader.specs.declared.cursor.Cursor.{Cursor}
 
 -- the next byte, and 256 where the text ends
@@ -22,6 +22,13 @@ pub record Reads (a : Cursor) (w : List ℕ) (b : Cursor) : Type 0 where
 -- no fault 7 up to a place, and no fault 8 before it
 abbrev pub ClearTo : Cursor → Type 0
 ClearTo a = Clear a.text.cells a.text.bytes.now a.at
+
+-- a condition can begin at a place on a level from 1 to 16: no fault comes before it
+pub record Ready (a : Cursor) (level : ℕ) : Type 0 where
+  pub clear : ClearTo a
+  pub deep : Deep a.text.bytes.now a.at level
+  pub some : 1 ≤ level
+  pub shallow : level ≤ 16
 
 -- a fault is the first of the place's text
 abbrev pub FirstIn : Cursor → FormulaFault → Type 0

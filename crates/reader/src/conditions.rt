@@ -3,10 +3,11 @@ ghost use Rattle.std.specs.Prelude.{◌≡◌, ℕ, ◌+◌, ◌-◌, ◌<◌, �
 ghost use Rattle.formulas.specs.Reading.{Awaits, AwaitsList};
 ghost use Rattle.reader.specs.Places.{ahead, behind, Reads, FirstIn};
 ghost use Rattle.reader.specs.Stores.{SameLoan, Kept, Room};
-ghost use Rattle.reader.specs.Read.{NotOpened, Ready, ReadOne, ReadList, joiner};
+ghost use Rattle.reader.specs.Read.{Opener, NotOpened, ReadOne, ReadList, joiner};
 
 use crate::cursor::Cursor;
 use crate::join::Join;
+use crate::nested::Nested;
 use crate::store::Store;
 use formulas::fault::{Flaw, FormulaFault};
 use formulas::node::Node;
@@ -23,22 +24,27 @@ impl Join {
     }
 }
 
-impl<'a> Cursor<'a> {
-    /// The place after a word that opens a bracket; what the bracket holds is one level further in.
-    fn opened(self, level: u8, opening: &[u8]) -> Result<Cursor<'a>, FormulaFault>
-        requires { level ≤ 16 }
+impl<'a> Nested<'a> {
+    /// Inside the bracket that a word opens here: one level further in.
+    fn opened(self, opening: &[u8]) -> Result<Nested<'a>, FormulaFault>
+        requires { Opener opening.now }
         ensures { MatchResult result
-            (λ end. Reads self.entry opening.now end × (level < 16))
-            (λ e. NotOpened self.entry.text.bytes.now self.entry.at opening.now level e) }
+            (λ inner. Reads self.entry.at opening.now inner.at × (inner.level ≡ self.entry.level + 1))
+            (λ e. NotOpened self.entry.at.text.bytes.now self.entry.at.at opening.now self.entry.level e) }
     {
-        let inner = self.word(opening)?;
-        if level == 16 {
+        let inner = self.at.word(opening)?;
+        if self.level == 16 {
             return Err(inner.fault(Flaw::Level));
         }
-        Ok(inner)
+        Ok(Nested {
+            at: inner,
+            level: self.level + 1,
+        })
     }
 }
 
+// What is awaited stays a clause: a ghost field could say it only truncated, and `side` takes the fact apart. So does `Room`, which joins a store
+// and a place, and `Kept`, which compares what is lent before and after.
 impl<'a> Store<'a> {
     /// Stores one more node.
     fn push(&mut self, node: Node)
@@ -54,22 +60,20 @@ impl<'a> Store<'a> {
     /// The number of the last node.
     pub fn last(&self) -> u16
         requires some { 1 ≤ self.now.used }
-        requires few { self.now.used ≤ 65536 }
         ensures { result ≡ self.now.used - 1 }
     {
         (self.used - 1) as u16
     }
 
     /// Side, relation, side.
-    fn comparison<'t>(&mut self, at: Cursor<'t>, level: u8) -> Result<Cursor<'t>, FormulaFault>
-        requires awaits { (o : List Bool) × Awaits o (behind at) }
-        requires plain { (ahead at ≢ 78) × (ahead at ≢ 65) × (ahead at ≢ 79) }
-        requires ready { Ready at level }
-        requires room { Room self.old at }
-        ensures read { MatchResult result (λ end. ReadOne at.entry level self.old self.new end) (λ e. FirstIn at.entry e) }
+    fn comparison<'t>(&mut self, place: Nested<'t>) -> Result<Cursor<'t>, FormulaFault>
+        requires awaits { (o : List Bool) × Awaits o (behind place.at) }
+        requires plain { (ahead place.at ≢ 78) × (ahead place.at ≢ 65) × (ahead place.at ≢ 79) }
+        requires room { Room self.old place.at }
+        ensures read { MatchResult result (λ end. ReadOne place.entry self.old self.new end) (λ e. FirstIn place.entry.at e) }
         ensures kept { Kept self.old self.new }
     {
-        let (left, after) = at.side()?;
+        let (left, after) = place.at.side()?;
         let (by, then) = after.relation()?;
         let (right, end) = then.side()?;
         self.push(Node::Compare(left, by, right));
@@ -78,52 +82,49 @@ impl<'a> Store<'a> {
 
     /// A condition.
     #[cycle(condition_conditions)]
-    pub fn condition<'t>(&mut self, at: Cursor<'t>, level: u8) -> Result<Cursor<'t>, FormulaFault>
-        requires awaits { (o : List Bool) × Awaits o (behind at) }
-        requires ready { Ready at level }
-        requires room { Room self.old at }
-        ensures read { MatchResult result (λ end. ReadOne at.entry level self.old self.new end) (λ e. FirstIn at.entry e) }
+    pub fn condition<'t>(&mut self, place: Nested<'t>) -> Result<Cursor<'t>, FormulaFault>
+        requires awaits { (o : List Bool) × Awaits o (behind place.at) }
+        requires room { Room self.old place.at }
+        ensures read { MatchResult result (λ end. ReadOne place.entry self.old self.new end) (λ e. FirstIn place.entry.at e) }
         ensures kept { Kept self.old self.new }
     {
-        if at.sees(b'N') {
-            let inner = at.opened(level, b"NOT(")?;
-            let after = self.condition(inner, level + 1)?;
+        if place.at.sees(b'N') {
+            let inner = place.opened(b"NOT(")?;
+            let after = self.condition(inner)?;
             let end = after.expect(b')')?;
             let child = self.last();
             self.push(Node::Not(child));
             return Ok(end);
         }
-        if at.sees(b'A') {
-            let inner = at.opened(level, b"AND(")?;
-            return self.conditions(inner, level + 1, Join::All);
+        if place.at.sees(b'A') {
+            let inner = place.opened(b"AND(")?;
+            return self.conditions(inner, Join::All);
         }
-        if at.sees(b'O') {
-            let inner = at.opened(level, b"OR(")?;
-            return self.conditions(inner, level + 1, Join::Any);
+        if place.at.sees(b'O') {
+            let inner = place.opened(b"OR(")?;
+            return self.conditions(inner, Join::Any);
         }
-        self.comparison(at, level)
+        self.comparison(place)
     }
 
     /// A list of conditions and the bracket that closes it.
     #[cycle(condition_conditions)]
-    fn conditions<'t>(
-        &mut self,
-        at: Cursor<'t>,
-        level: u8,
-        join: Join,
-    ) -> Result<Cursor<'t>, FormulaFault>
-        requires awaits { (o : List Bool) × AwaitsList o (behind at) }
-        requires ready { Ready at level }
-        requires room { Room self.old at }
-        ensures read { MatchResult result (λ end. ReadList at.entry level join self.old self.new end) (λ e. FirstIn at.entry e) }
+    fn conditions<'t>(&mut self, place: Nested<'t>, join: Join) -> Result<Cursor<'t>, FormulaFault>
+        requires awaits { (o : List Bool) × AwaitsList o (behind place.at) }
+        requires room { Room self.old place.at }
+        ensures read { MatchResult result (λ end. ReadList place.entry join self.old self.new end) (λ e. FirstIn place.entry.at e) }
         ensures kept { Kept self.old self.new }
     {
-        let after = self.condition(at, level)?;
+        let after = self.condition(place)?;
         let Some(next) = after.past(b',') else {
             return after.expect(b')');
         };
         let first = self.last();
-        let end = self.conditions(next, level, join)?;
+        let more = Nested {
+            at: next,
+            level: place.level,
+        };
+        let end = self.conditions(more, join)?;
         let rest = self.last();
         self.push(join.node(first, rest));
         Ok(end)

@@ -10,6 +10,7 @@ ghost use Rattle.reader.specs.Formula.{ReadFormula, Decided};
 use crate::cursor::{Cursor, Text};
 use crate::mentions::cells_of;
 use crate::named::Named;
+use crate::nested::Nested;
 use crate::store::Store;
 use formulas::fault::{Flaw, FormulaFault};
 use formulas::node::Node;
@@ -53,7 +54,8 @@ pub fn read(
             Ok(formula)
         }
         Err(fault) => {
-            clear(store.nodes, *used);
+            let Store { nodes, .. } = store;
+            clear(nodes, *used);
             Err(fault)
         }
     }
@@ -71,7 +73,6 @@ impl<'a> Store<'a> {
     /// The different cells that the nodes from a place on name; nothing where they are more than four.
     fn named(&self, from: usize) -> Option<Named>
         requires order { from ≤ self.now.used }
-        requires within { self.now.used ≤ length self.now.nodes.now }
         ensures { Found (named_from self.now from) result }
     {
         cells_of(&self.nodes[from..self.used])
@@ -87,7 +88,10 @@ impl<'a> Store<'a> {
         ensures kept { Kept self.old self.new }
     {
         let from = self.used;
-        let end = self.condition(start, 1)?;
+        let end = self.condition(Nested {
+            at: start,
+            level: 1,
+        })?;
         if end.byte().is_some() {
             return Err(end.fault(Flaw::Grammar));
         }

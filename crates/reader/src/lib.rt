@@ -8,5 +8,6 @@ pub mod formula;
 mod join;
 mod mentions;
 mod named;
+mod nested;
 mod sides;
 mod store;

@@ -12,6 +12,7 @@ use crate::cursor::Cursor;
 use formulas::fault::{Flaw, FormulaFault};
 use formulas::node::{Relation, Shift, Side};
 
+// What is awaited stays a clause, as for conditions.
 impl<'a> Cursor<'a> {
     /// A number without a minus.
     fn number(self) -> Result<(u32, Cursor<'a>), FormulaFault>

@@ -46,9 +46,9 @@ module _ (bytes : List ℕ) (rule : RowsRule) where
         good.apart j k lt h' (sym (cell_of j 255 l') ∙ e ∙ cell_of k 255 h');
   }
 
-pub rows_lawful : (rules : List RowsRule) (bytes : List ℕ) → WellFormed rules bytes → Lawful (rows_book rules bytes)
+pub rows_lawful : (rules : List RowsRule) (bytes : List ℕ) → ∥ WellFormed rules bytes ∥₁ → Lawful (rows_book rules bytes)
 rows_lawful rules bytes ok = record {
-  bounded = ok.few;
-  sound = λ r h. sound bytes (slice_index_or rules r no_rows) (ok.each r h).good;
+  bounded = (well_formed ok).few;
+  sound = λ r h. sound bytes (slice_index_or rules r no_rows) ((well_formed ok).each r h).good;
   missing = λ r h. ap (λ rule. (rule_of bytes rule).cells) (get_or_past rules r no_rows h);
 }

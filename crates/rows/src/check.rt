@@ -7,6 +7,7 @@ use crate::rule::RowsRule;
 use network::cells::are_good;
 
 impl<'a> RowsBook<'a> {
+    // As in a formula book, whose stores are others: a function for both would be handed all that differs.
     /// The book of these stores, and the book without rules where they are not well formed.
     pub fn new(rules: &'a [RowsRule], bytes: &'a [u8]) -> RowsBook<'a>
         ensures taken { WellFormed rules.now bytes.now → result.rules.now ≡ rules.now }
@@ -32,6 +33,7 @@ pub fn is_well_formed(rules: &[RowsRule], bytes: &[u8]) -> bool
 fn is_fit(rule: &RowsRule, bytes: usize) -> bool
     ensures { Decides result (Fit rule.now bytes) }
 {
-    are_good(rule.width, rule.cells)
+    rule.width <= 4
+        && are_good(&rule.cells[..rule.width as usize])
         && rule.start as usize + rule.count as usize * rule.width as usize <= bytes
 }

@@ -9,6 +9,7 @@ pub enum Kind {
 }
 
 /// A rule: of its cells the first `width` count, and of the bytes of all rules it has `count` rows of `width` bytes each, from `start` on.
+// It is stored without a heap, so the cells are an array with a count.
 #[derive(Clone, Copy, Debug, Default, PartialEq, Eq)]
 pub struct RowsRule {
     pub kind: Kind,

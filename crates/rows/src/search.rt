@@ -35,6 +35,7 @@ fn is_stored(rows: &[u8], width: usize, row: &[u8]) -> bool
 }
 
 /// How many rows have allowed places only.
+// `length ≤ 4` stays a clause here and below, as in `network::tries`.
 fn allowed_rows(masks: &[u64]) -> u32
     requires { length masks.now ≤ 4 }
     ensures { result ≡ rows_within masks.now (length masks.now) }

@@ -30,12 +30,13 @@ impl<'a> RowsBook<'a> {
 impl<'a> RuleBook for RowsBook<'a> {
     ghost meaning = { λ b. rows_book b.rules.now b.bytes.now };
 
-    ghost laws = { λ b. rows_lawful b.rules.now b.bytes.now b.ok };
+    ghost laws = { λ b. rows_lawful b.rules.now b.bytes.now ∣ b.ok ∣₁ };
 
     fn count(&self) -> u16 {
         self.rules.len() as u16
     }
 
+    // Width, cell and the first lines of `supported` are as in a formula book: a trait for what rules and formulas share would have more lines.
     fn width(&self, rule: u16) -> u8 {
         self.find(rule).map_or(0, |rule| rule.width)
     }

@@ -1,9 +1,10 @@
 -- More on sets as masks: what a mark adds, and how many members there are. Assumes nothing.
-use Rattle.std.proofs.Common.{◌≡◌, ℕ, zero, suc, ◌+◌, ◌/◌, ◌%◌, ◌^◌, ◌<◌, ◌≤◌, Bool, true, false, cond, ◌≢◌, ◌⊎◌, List, [], ◌∷◌, ◌++◌, length, sym, refl, ap, ◌∙◌, subst, inl, inr, arith, length-append}
+use Rattle.std.proofs.Common.{◌≡◌, ℕ, zero, suc, ◌/◌, ◌%◌, ◌^◌, ◌<◌, ◌≤◌, ◌≢◌, ◌⊎◌, length, sym, ap, ◌∙◌, subst, inl, inr, arith}
 use lib.Bits.{bit_or, or_zero_r}
-use Rattle.std.proofs.lemmas.Bool.{cases_eq, eq-eqb, ne_eqb}
-use Rattle.bits.specs.Sets.{In, in?, below, members, size}
+use Rattle.std.proofs.lemmas.Bool.{cases_eq}
+use Rattle.bits.specs.Sets.{In, below, members, size}
 use Rattle.bits.proofs.Bits.{or_bit, pow_other}
+use Rattle.bits.proofs.Size.{below_yes, below_no, below_zero, some_below}
 use Rattle.bits.proofs.Low.{low_trailing}
 
 pub mark_only : (s v w : ℕ) → In (bit_or s (2 ^ v)) w → In s w ⊎ (w ≡ v)
@@ -11,27 +12,6 @@ mark_only s v w h = elim (cases_eq w v) [
   | inl e ↦ inr e
   | inr ne ↦ inl (sym (or_bit s (2 ^ v) w ∙ ap (bit_or (s / 2 ^ w % 2)) (pow_other v w ne) ∙ or_zero_r (s / 2 ^ w % 2)) ∙ h)
 ]
-
--- ---- members below n, one more
-push_yes : (b : Bool) (xs : List ℕ) (n : ℕ) → b ≡ true → length (xs ++ cond b (n ∷ []) []) ≡ length xs + 1
-push_yes true xs n e = length-append xs (n ∷ [])
-push_yes false xs n e = absurd (Rattle.std.proofs.lemmas.Bool.false≢true e)
-
-push_no : (b : Bool) (xs : List ℕ) (n : ℕ) → b ≡ false → length (xs ++ cond b (n ∷ []) []) ≡ length xs
-push_no false xs n e = length-append xs [] ∙ omega arith
-push_no true xs n e = absurd (Rattle.std.proofs.lemmas.Bool.true≢false e)
-
-below_yes : (n s : ℕ) → In s n → length (below (suc n) s) ≡ length (below n s) + 1
-unfolding below
-below_yes n s h = push_yes (in? s n) (below n s) n (eq-eqb (s / 2 ^ n % 2) 1 h)
-
-below_no : (n s : ℕ) → (In s n → ⊥) → length (below (suc n) s) ≡ length (below n s)
-unfolding below
-below_no n s h = push_no (in? s n) (below n s) n (ne_eqb (s / 2 ^ n % 2) 1 h)
-
-below_zero : (s : ℕ) → length (below 0 s) ≡ 0
-unfolding below
-below_zero s = refl
 
 -- ---- more members where there is more
 below_sub : (n t s : ℕ) → ((v : ℕ) → v < n → In t v → In s v) → length (below n t) ≤ length (below n s)
@@ -58,14 +38,6 @@ below_one (suc n) s v h = elim (cases_eq (s / 2 ^ n % 2) 1) [
       let none = below_none n s (λ w l k. let q : w ≡ v = h w (omega arith) k in omega arith) in
       omega (arith, below_yes n s e)
   | inr ne ↦ omega (arith, below_no n s ne, below_one n s v (λ w l. h w (omega arith)))
-]
-
-some_below : (n s v : ℕ) → v < n → In s v → 1 ≤ length (below n s)
-some_below zero s v l h = absurd (omega arith)
-some_below (suc n) s v l h = elim (cases_eq (s / 2 ^ n % 2) 1) [
-  | inl e ↦ omega (arith, below_yes n s e)
-  | inr ne ↦
-      elim (cases_eq v n) [ inl q ↦ absurd (ne (subst (λ (x : ℕ). In s x) q h)) | inr d ↦ omega (arith, below_no n s ne, some_below n s v (omega arith) h) ]
 ]
 
 two_below : (n s v w : ℕ) → v < w → w < n → In s v → In s w → 2 ≤ length (below n s)

@@ -6,24 +6,22 @@ ghost use Rattle.runs.specs.Verdict.{number_of};
 #[derive(Clone, Copy, Debug, PartialEq, Eq)]
 pub enum Verdict {
     /// Some filling meets them.
-    Met,
+    Met = 0,
     /// No filling does: they clash.
-    Unmet,
+    Unmet = 1,
 }
 
 impl Verdict {
-    /// The number that stands for it.
+    /// The number that stands for it, which hosts are promised.
     pub fn number(self) -> u8
         ensures { result ≡ number_of self }
     {
-        match self {
-            Verdict::Met => 0,
-            Verdict::Unmet => 1,
-        }
+        self as u8
     }
 }
 
 /// A run's line: the rules that it listed, those that it used (none where a filling meets them), and what it found.
+// Hosts are promised all three, with no rule used at a filling; so `used` stands beside the verdict and not in it.
 #[derive(Clone, Copy, Debug, PartialEq, Eq)]
 pub struct Line {
     pub listed: u64,

@@ -1,6 +1,6 @@
 -- Tries, from what the code writes. Assumes nothing.
-use Rattle.std.proofs.Common.{◌≡◌, ℕ, ◌+◌, ◌-◌, ◌*◌, ◌^◌, ◌<◌, ◌≤◌, Bool, true, false, ◌≢◌, List, get_or, set, sym, refl, ap, subst, inl, inr, arith, length-set}
-use Rattle.std.proofs.lemmas.Bool.{cases_eq}
+use Rattle.std.proofs.Common.{◌≡◌, ℕ, ◌+◌, ◌-◌, ◌*◌, ◌^◌, ◌<◌, ◌≤◌, Bool, true, false, ◌≢◌, Ok, Err, Result, MatchResult, is_ok, List, get_or, set, sym, refl, ap, subst, inl, inr, arith, length-set}
+use Rattle.std.proofs.lemmas.Bool.{cases_eq, false≢true, true≢false}
 use Rattle.bits.specs.Sets.{In, Lowest, size}
 use Rattle.bits.proofs.Bits.{has_le}
 use Rattle.network.specs.Book.{BookMeaning}
@@ -16,6 +16,15 @@ use Rattle.runs.proofs.Chosen.{chosen, open_full}
 use Rattle.search.specs.Room.{Able}
 use Rattle.search.specs.Picks.{Picks}
 use Rattle.search.proofs.Rooms.{able_sub}
+
+-- what a result says, by a test of it
+pub ok_says : {T E P : Type 0} (r : Result T E) (Q : E → Type 0) → is_ok r ≡ true → MatchResult r (λ _. P) Q → P
+ok_says (Ok x) Q e h = h
+ok_says (Err y) Q e h = absurd (false≢true e)
+
+pub err_says : {T E : Type 0} {Q : E → Type 0} (r : Result T E) (P : T → Type 0) → is_ok r ≡ false → MatchResult r P Q → (y : E) × Q y
+err_says (Ok x) P e h = absurd (true≢false e)
+err_says (Err y) P e h = (y, h)
 
 -- one place alone is less than an open set
 pub open_above : (s v : ℕ) → 1 < size s → In s v → 2 ^ v < s

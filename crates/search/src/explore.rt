@@ -22,6 +22,8 @@ struct Trial {
     place: u8,
 }
 
+// Rules, chooser, work and progress come one by one: a try hands on a part of the work buffer, and the others as they are. `Suits` and `Kept` stay
+// clauses, as in `settling`. That a filling is found is a `bool`, as `Explores` of specs has it.
 /// The try to make next: of the lowest place at the cell that the chooser names, if any is open.
 fn next_trial<B: RuleBook, C: Chooser>(
     rules: &Listed<'_, B>,
@@ -85,7 +87,7 @@ fn attempt<B: RuleBook, C: Chooser>(
     ensures failed { result ≡ false → TryFails C.Chooser.meaning (B.RuleBook.meaning rules.now.book.now) rules.now.rules chooser.old (state_of progress.old) trial.cell trial.place chooser.new (state_of progress.new) }
 {
     progress.sets[trial.cell as usize] = only(trial.place);
-    if let Ok(()) = rules.settle(progress) {
+    if rules.settle(progress).is_ok() {
         chooser.tell(Event::Stood(trial.cell));
         if explore(rules, chooser, work, progress) {
             return true;
@@ -114,7 +116,7 @@ pub(crate) fn explore<B: RuleBook, C: Chooser>(
             return true;
         }
         retreat(before, trial, progress);
-        if let Err(_) = rules.settle(progress) {
+        if rules.settle(progress).is_err() {
             return false;
         }
     }

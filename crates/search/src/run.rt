@@ -1,7 +1,7 @@
 //! A whole run, and the line that it writes.
 ghost use Rattle.std.specs.Prelude.{◌≡◌, ℕ, ◌≤◌, length};
 ghost use Rattle.network.specs.Fillings.{Meetable};
-ghost use Rattle.runs.specs.Run.{Searches, Run};
+ghost use Rattle.runs.specs.Run.{Searches, Run, line};
 ghost use Rattle.runs.specs.Law.{Ready, Right, Fills, OnlyRun};
 ghost use Rattle.settling.specs.Kept.{state_of, Kept};
 ghost use Rattle.search.specs.Room.{Able};
@@ -24,13 +24,30 @@ fn search<B: RuleBook, C: Chooser>(
     ensures kept { Kept progress.old progress.new }
     ensures steps { Searches C.Chooser.meaning (B.RuleBook.meaning rules.now.book.now) rules.now.rules chooser.old (state_of progress.old) result chooser.new (state_of progress.new) }
 {
-    if let Err(_) = rules.settle(progress) {
+    if rules.settle(progress).is_err() {
         return false;
     }
     explore(rules, chooser, work, progress)
 }
 
-/// A run of the listed rules from the starting sets; its parameters are those with which a `Runner` is asked, and stay apart for it. Where some filling meets them, the sets left are one, with one place at each cell.
+/// The line of a run: where it found a filling, no rule is used.
+fn line_of(listed: u64, found: bool, used: u64) -> Line
+    ensures { result ≡ line listed found used }
+{
+    let (used, verdict) = if found {
+        (0, Verdict::Met)
+    } else {
+        (used, Verdict::Unmet)
+    };
+    Line {
+        listed,
+        used,
+        verdict,
+    }
+}
+
+/// A run of the listed rules from the starting sets. Where some filling meets them, the sets left are a filling, with one place at each cell.
+// The host lends each buffer, so they come one by one.
 pub fn run<B: RuleBook, C: Chooser>(
     book: &B,
     chooser: &mut C,
@@ -61,16 +78,6 @@ pub fn run<B: RuleBook, C: Chooser>(
         used: 0,
         weights,
     };
-    if search(&rules, chooser, work, &mut progress) {
-        return Line {
-            listed,
-            used: 0,
-            verdict: Verdict::Met,
-        };
-    }
-    Line {
-        listed,
-        used: progress.used,
-        verdict: Verdict::Unmet,
-    }
+    let found = search(&rules, chooser, work, &mut progress);
+    line_of(listed, found, progress.used)
 }

@@ -32,6 +32,7 @@ pub struct Session<'a, B, C> {
 }
 
 /// Whether the buffers are long enough for a Fit.
+// The host lends each, so here and in a Fit they come one by one.
 fn are_enough(work: &[u64], log: &[Line], filling: &[u8]) -> bool
     ensures { Decides result (Enough (sizes_of work.now log.now filling.now)) }
 {
@@ -70,10 +71,8 @@ impl<B: RuleBook, C: Chooser> Session<'_, B, C> {
         ensures { Changed B.RuleBook.meaning (Pin cell place) self.old (to_change result) self.new }
     {
         self.opened()?;
-        if cell as usize >= self.lengths.len() {
-            return Err(Refusal::NoCell);
-        }
-        if place >= self.lengths[cell as usize] {
+        let length = self.lengths.get(cell as usize).ok_or(Refusal::NoCell)?;
+        if place >= *length {
             return Err(Refusal::NoPlace);
         }
         self.table.pins[cell as usize] = Some(place);

@@ -14,7 +14,8 @@ impl Progress<'_> {
     ghost use Rattle.std.specs.Prelude.{◌<◌};
     ghost use Rattle.settling.specs.Kept.{Kept, Weighs};
 
-    /// One more for the rule, up to the largest weight.
+    // `rule < 64` is a clause, as in revisions.
+    /// Adds one to the weight of a rule, which stops at the largest number.
     pub(crate) fn weigh(&mut self, rule: u16)
         requires { rule < 64 }
         ensures kept { Kept self.old self.new }

@@ -21,7 +21,8 @@ fn past_highest(places: u64) -> u8
     64 - places.leading_zeros() as u8
 }
 
-// `rule < 64` and `Suits` stay clauses: a book numbers its rules by 16 bits, and the sets that have to suit it are in another struct.
+// `rule < 64` stays a clause: a book is asked by a plain number, so a type for a small one would be taken apart at each question. `Suits` and what is
+// said of a cell stay too: one struct of book and sets would lend the book mutably with them. `Kept` compares what is lent before and after.
 impl<B: RuleBook> Listed<'_, B> {
     /// Whether a place at a position of a rule has support.
     fn has_support(&self, rule: u16, position: u8, place: u8, progress: &Progress<'_>) -> bool

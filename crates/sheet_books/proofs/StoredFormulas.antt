@@ -15,6 +15,7 @@ use Rattle.formula_book.specs.Support.{lists_of}
 use Rattle.sheets.specs.Sheet.{GoodFormula, Each}
 use Rattle.sheets.specs.Stored.{formula_of, formulas_of, nodes_of}
 use Rattle.sheets.specs.Meaning.{numbers_at, formula_rule, no_condition, listed as within}
+use Rattle.sheets.proofs.Storing.{length_formulas}
 use Rattle.sheet_books.proofs.Parts.{each_at, cells_there, cells_good}
 use Rattle.sheet_books.proofs.StoredCells.{cells_known, cells_below, cells_apart}
 use Rattle.sheet_books.proofs.StoredNumbers.{Short, spread, listed_same, numbers_same}
@@ -96,10 +97,6 @@ formula_there (c ∷ cs) n p q nodes l e (suc r) h =
     (e ∙ ap (λ y. p ++ y) (append_assoc (layout n c) (nodes_of (n + size c) cs) q) ∙ sym (append_assoc p (layout n c) (nodes_of (n + size c) cs ++ q))) r (omega arith) in
     record { start = i.start; before = i.before; after = i.after; is = i.is; long = i.long; said = i.said }
 
-pub formulas_length : (n : ℕ) (cs : List Condition) → length (formulas_of n cs) ≡ length cs
-formulas_length n [] = refl
-formulas_length n (c ∷ cs) = ap suc (formulas_length (n + size c) cs)
-
 -- tests that agree in their second part where the first holds
 and_same : (a b x y : Bool) → a ≡ b → (b ≡ true → x ≡ y) → (a && x) ≡ (b && y)
 and_same a true x y e same = ap (λ t. t && x) e ∙ same refl
@@ -151,8 +148,8 @@ module _ (lists : List (List ℤ)) (short : Short lists) (few : length lists ≤
 
   pub formulas_well_formed : length cs ≤ 64 → WellFormed nodes (formulas_of 0 cs)
   formulas_well_formed few_rules = record {
-    few = omega (arith, formulas_length 0 cs);
+    few = omega (arith, length_formulas 0 cs);
     each = λ r h.
-        let h' : r < length cs = omega (arith, formulas_length 0 cs) in
+        let h' : r < length cs = omega (arith, length_formulas 0 cs) in
         subst (Fit nodes) (sym (there r h').is) (fit r h');
   }

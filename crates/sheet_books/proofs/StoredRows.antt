@@ -15,6 +15,7 @@ use Rattle.rows.proofs.Rows.{stores_decides}
 use Rattle.sheets.specs.Sheet.{RowsField, GoodRows, Each}
 use Rattle.sheets.specs.Stored.{places_of, stored_rule_of, rules_of}
 use Rattle.sheets.specs.Meaning.{one_of, permits_row, rows_rule, no_rows as no_field}
+use Rattle.sheets.proofs.Storing.{length_rules}
 use Rattle.sheet_books.proofs.Parts.{each_at, cells_there, cells_good}
 
 -- ---- rows of one width, one after another
@@ -109,10 +110,6 @@ rule_there (x ∷ xs) n p q bytes l e (suc r) h =
     (e ∙ ap (λ y. p ++ y) (append_assoc (places_of x) (flat_map places_of xs) q) ∙ sym (append_assoc p (places_of x) (flat_map places_of xs ++ q))) r (omega arith) in
     record { start = i.start; before = i.before; after = i.after; is = i.is; long = i.long; said = i.said }
 
-pub rules_length : (n : ℕ) (xs : List RowsField) → length (rules_of n xs) ≡ length xs
-rules_length n [] = refl
-rules_length n (x ∷ xs) = ap suc (rules_length (n + length (places_of x)) xs)
-
 module _ (lists : List (List ℤ)) (xs : List RowsField) (q : List ℕ) (few : length lists ≤ 64) (good : Each (GoodRows lists) xs) where
   abbrev bytes : List ℕ
   bytes = flat_map places_of xs ++ q
@@ -125,9 +122,9 @@ module _ (lists : List (List ℤ)) (xs : List RowsField) (q : List ℕ) (few : l
 
   pub rows_well_formed : length xs ≤ 64 → WellFormed (rules_of 0 xs) bytes
   rows_well_formed short = record {
-    few = omega (arith, rules_length 0 xs);
+    few = omega (arith, length_rules 0 xs);
     each = λ r h.
-        let h' : r < length xs = omega (arith, rules_length 0 xs) in
+        let h' : r < length xs = omega (arith, length_rules 0 xs) in
         let t = there r h' in
         let g = good_at r h' in
         let x = get_or xs r no_field in

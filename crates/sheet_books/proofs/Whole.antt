@@ -13,10 +13,11 @@ use Rattle.sheets.specs.declared.stores.Extent.{Extent}
 use Rattle.sheets.specs.Sheet.{Sheet, Good, GoodList}
 use Rattle.sheets.specs.Stored.{Contents, stored, extent_of, places_of, rules_of, formulas_of, nodes_of, zero_rule, zero_formula}
 use Rattle.sheets.specs.Meaning.{Means, rule_at, rows_rule, formula_rule, no_rows as no_field, no_condition}
+use Rattle.sheets.proofs.Storing.{length_rules, length_formulas}
 use Rattle.sheet_books.specs.Books.{Holds, Lends, book_of}
 use Rattle.sheet_books.proofs.Parts.{filled_take, each_map}
-use Rattle.sheet_books.proofs.StoredRows.{rules_length, rows_well_formed, rows_cells, rows_permits}
-use Rattle.sheet_books.proofs.StoredFormulas.{formulas_length, formulas_well_formed, formula_cells, formula_permits}
+use Rattle.sheet_books.proofs.StoredRows.{rows_well_formed, rows_cells, rows_permits}
+use Rattle.sheet_books.proofs.StoredFormulas.{formulas_well_formed, formula_cells, formula_permits}
 use Rattle.sheet_books.proofs.StoredNumbers.{Short, spread}
 
 module _ (before : Contents) (s : Sheet) (g : Good s) where
@@ -69,13 +70,13 @@ module _ (before : Contents) (s : Sheet) (g : Good s) where
 
     low : r < length s.rows → ((book_of borrowed).rule r ≡ by_rows) × (rule_at s r ≡ rows_rule (get_or s.rows r no_field))
     low l = (
-      cond-true (ltb r (length borrowed.rules)) by_rows _ (lt-ltb r (length borrowed.rules) (omega (arith, rules_length 0 s.rows))),
+      cond-true (ltb r (length borrowed.rules)) by_rows _ (lt-ltb r (length borrowed.rules) (omega (arith, length_rules 0 s.rows))),
       cond-true (ltb r (length s.rows)) _ _ (lt-ltb r (length s.rows) l),
     )
 
     high : length s.rows ≤ r → ((book_of borrowed).rule r ≡ by_formula (r - length s.rows)) × (rule_at s r ≡ formula_rule s.lists (get_or s.formulas (r - length s.rows) no_condition))
     high l =
-        let n = rules_length 0 s.rows in (
+        let n = length_rules 0 s.rows in (
           cond-false (ltb r (length borrowed.rules)) by_rows _ (le-ltb r (length borrowed.rules) (omega arith))
               ∙ cond-true (ltb r 65535) (by_formula (r - length borrowed.rules)) no_rule (lt-ltb r 65535 (omega arith))
               ∙ ap (λ k. by_formula (r - k)) n,
@@ -83,7 +84,7 @@ module _ (before : Contents) (s : Sheet) (g : Good s) where
         )
 
     past : length s.rows ≤ r → r - length s.rows < length s.formulas
-    past l = omega (arith, rules_length 0 s.rows, formulas_length 0 s.formulas, g.few_rules)
+    past l = omega (arith, length_rules 0 s.rows, length_formulas 0 s.formulas, g.few_rules)
 
     cells_same : ((book_of borrowed).rule r).cells ≡ (rule_at s r).cells
     cells_same = ⊎_elim
@@ -99,17 +100,17 @@ module _ (before : Contents) (s : Sheet) (g : Good s) where
 
   means : Means s (book_of borrowed)
   means = record {
-    count = omega (arith, rules_length 0 s.rows, formulas_length 0 s.formulas, g.few_rules);
+    count = omega (arith, length_rules 0 s.rows, length_formulas 0 s.formulas, g.few_rules);
     cells = cells_same;
     permits = λ r row h. permits_same r h row;
   }
 
   -- the parts that the extent counts
   rules_are : take (length s.rows) c.rules ≡ rules_of 0 s.rows
-  rules_are = filled_take zero_rule (length before.rules) (rules_of 0 s.rows) (length s.rows) (rules_length 0 s.rows)
+  rules_are = filled_take zero_rule (length before.rules) (rules_of 0 s.rows) (length s.rows) (length_rules 0 s.rows)
 
   formulas_are : take (length s.formulas) c.formulas ≡ formulas_of 0 s.formulas
-  formulas_are = filled_take zero_formula (length before.formulas) (formulas_of 0 s.formulas) (length s.formulas) (formulas_length 0 s.formulas)
+  formulas_are = filled_take zero_formula (length before.formulas) (formulas_of 0 s.formulas) (length s.formulas) (length_formulas 0 s.formulas)
 
   lengths_are : take (length s.lists) c.lengths ≡ map length s.lists
   lengths_are = filled_take 0 (length before.lengths) (map length s.lists) (length s.lists) (length-map s.lists length)

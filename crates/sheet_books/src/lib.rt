@@ -14,6 +14,7 @@ use rows::rule::RowsRule;
 use sheets::stores::{Extent, Stores};
 
 /// The first items, all of them where there are fewer.
+// As `text::part` from 0 on: to share this line, a crate of books would import one of texts.
 fn first<T>(items: &[T], count: usize) -> &[T]
     ensures { result.now ≡ take count items.now }
 {

@@ -8,7 +8,7 @@ use Rattle.sheets.specs.Sheet.{RowsField, four_bytes, list_bytes, kind_byte, row
 use Rattle.sheets.proofs.Fields.{same_front, byte}
 
 -- a number of at most a million fits 32 bits
-small_fits : (z : ℤ) → nat_abs z ≤ 1000000 → SFits w32 z
+pub small_fits : (z : ℤ) → nat_abs z ≤ 1000000 → SFits w32 z
 small_fits (pos n) h = record { sfits = omega arith }
 small_fits (negsuc n) h = record { sfits = omega arith }
 

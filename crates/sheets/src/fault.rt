@@ -41,8 +41,8 @@ pub enum LoadFault {
 }
 
 impl RuleFault {
-    /// The number that stands for it.
-    // Hosts are promised these numbers.
+    /// The number that stands for it, which hosts are promised.
+    // By hand: the variants hold offsets and other faults, so they have no discriminants.
     pub fn number(self) -> u8
         ensures { result ≡ rule_number self }
     {
@@ -75,8 +75,8 @@ impl RuleFault {
 }
 
 impl LoadFault {
-    /// The number that stands for it.
-    // Hosts are promised these numbers.
+    /// The number that stands for it, which hosts are promised.
+    // By hand: the variants hold offsets and other faults, so they have no discriminants.
     pub fn number(self) -> u8
         ensures { result ≡ number self }
     {

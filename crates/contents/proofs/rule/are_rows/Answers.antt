@@ -1,5 +1,5 @@
 use Rattle.std.proofs.Common.{rules, length}
-use Rattle.contents.specs.Parts.{Listed}
+use Rattle.network.specs.Cells.{Listed}
 use Rattle.rows.proofs.Chunks.{all_chunks}
 use Rattle.contents.proofs.rule.are_rows.Goals as goal
 

@@ -17,7 +17,7 @@ loop-position-preserved g c =
           w.if-other-cell.true i.0 i.1 w.here-is w.elsewhere-is
       | else-other-cell w ↦
           other_cell c.args.self.now.sets.now c.args.cell cells c.loop-position.position c.cell-other.result (omega arith) c.cell-other.ensures
-          w.if-other-cell.false i.0 i.1 (w.is_open-elsewhere.ensures ∙ ap (λ (x : ℕ). ltb 1 (size x)) w.places.ensures) w.here-is w.elsewhere-is
+          w.if-other-cell.false i.0 i.1 (ap (λ (n : ℕ). ltb 1 n) w.count.ensures.size ∙ ap (λ (x : ℕ). ltb 1 (size x)) w.remaining.ensures) w.here-is w.elsewhere-is
     ]
 
 pub returns-then-here : goal.returns-then-here

@@ -8,9 +8,9 @@ use Rattle.settling.specs.declared.progress.Progress.{Progress}
 use Rattle.settling.proofs.Reports.{kept_more, kept_from}
 use Rattle.search.specs.Room.{Able}
 use Rattle.search.proofs.Rooms.{able_alone, frame_room}
-use Rattle.search.proofs.Tries.{try_falls, loop_falls, out_falls, le_of_lt_le, try_first, try_last, try_stands, stands_on, fails_on, goes_on_with, able_out, able_settled}
+use Rattle.search.proofs.Tries.{ok_says, err_says, try_falls, loop_falls, out_falls, le_of_lt_le, try_first, try_last, try_stands, stands_on, fails_on, goes_on_with, able_out, able_settled}
 use Rattle.search.proofs.explore.+attempt_explore.Goals as goal
-use Rattle.search.proofs.explore.+attempt_explore.Goals.{attempt-in-Ok+else-explore, attempt-in_default}
+use Rattle.search.proofs.explore.+attempt_explore.Goals.{attempt-then-is_ok+else-explore, attempt-else-is_ok}
 
 pub attempt-settle-requires : goal.attempt-settle-requires
 attempt-settle-requires g t c =
@@ -22,15 +22,15 @@ pub attempt-explore-requires : goal.attempt-explore-requires
 attempt-explore-requires g t c κs within =
     let e = c.only.ensures.one c.requires.chosen.there.0 in
     let a = subst (λ (x : ℕ). Able (g.B.RuleBook.meaning c.args.rules.now.book.now) (set c.args.progress.now.sets.now c.args.trial.cell x) (length c.args.work.now)) (sym e) c.requires.able in (
-      try_falls c.args.progress.now.sets.now c.settle.new.progress.sets.now c.args.trial.cell c.args.trial.place c.only.result t c.decreases c.requires.chosen e c.in-Ok.ensures.less,
-      (within.0, (within.1, able_settled _ a c.in-Ok.ensures.law refl)),
+      try_falls c.args.progress.now.sets.now c.settle.new.progress.sets.now c.args.trial.cell c.args.trial.place c.only.result t c.decreases c.requires.chosen e c.settle.ensures.less,
+      (within.0, (within.1, able_settled _ a (ok_says _ _ (sym c.if-is_ok.ensures.value) c.settle.ensures.law) refl)),
     )
 
 pub attempt-returns-then-explore : goal.attempt-returns-then-explore
 attempt-returns-then-explore g t c =
     record {
-      kept = kept_from (kept_more c.in-Ok.ensures.kept c.if-explore.ensures.kept) refl refl (length-set _ _ _) refl;
-      stood = λ _. try_stands (c.only.ensures.one c.requires.chosen.there.0) c.tell.ensures c.in-Ok.ensures.steps c.if-explore.ensures.steps;
+      kept = kept_from (kept_more c.settle.ensures.kept c.if-explore.ensures.kept) refl refl (length-set _ _ _) refl;
+      stood = λ _. try_stands (c.only.ensures.one c.requires.chosen.there.0) c.tell.ensures (ok_says _ _ (sym c.if-is_ok.ensures.value) c.settle.ensures.steps) c.if-explore.ensures.steps;
       failed = λ e. absurd (true≢false e);
     }
 
@@ -41,20 +41,20 @@ attempt-returns g t c =
     let p = c.args.progress.now in
     let e = c.only.ensures.one c.requires.chosen.there.0 in
     record {
-      kept = elim c.match-settle.branch [
-        | attempt-in-Ok+else-explore w ↦
-            subst (λ (x : Progress). Kept p x) (sym w.progress-is) (kept_from (kept_more w.in-Ok.ensures.kept w.if-explore.ensures.kept) refl refl (length-set _ _ _) refl)
-        | attempt-in_default w ↦
-            subst (λ (x : Progress). Kept p x) (sym w.progress-is) (kept_from w.in_default.ensures.kept refl refl (length-set _ _ _) refl)
+      kept = elim c.if-is_ok.branch [
+        | attempt-then-is_ok+else-explore w ↦
+            subst (λ (x : Progress). Kept p x) (sym w.progress-is) (kept_from (kept_more c.settle.ensures.kept w.if-explore.ensures.kept) refl refl (length-set _ _ _) refl)
+        | attempt-else-is_ok w ↦
+            subst (λ (x : Progress). Kept p x) (sym w.progress-is) (kept_from c.settle.ensures.kept refl refl (length-set _ _ _) refl)
       ];
       stood = λ q. absurd (false≢true q);
-      failed = λ _. elim c.match-settle.branch [
-        | attempt-in-Ok+else-explore w ↦
+      failed = λ _. elim c.if-is_ok.branch [
+        | attempt-then-is_ok+else-explore w ↦
             subst (λ (x : Progress). TryFails k m c.args.rules.now.rules c.args.chooser.now (state_of p) c.args.trial.cell c.args.trial.place c.tell-2.new.self (state_of x)) (sym w.progress-is)
-            (try_last e w.tell.ensures (c.tell-2.ensures ∙ ap (λ (x : g.row.C.Denot). k.told x (Failed c.args.trial.cell)) w.chooser-is) w.in-Ok.ensures.steps w.if-explore.ensures.steps)
-        | attempt-in_default w ↦
+            (try_last e w.tell.ensures (c.tell-2.ensures ∙ ap (λ (x : g.row.C.Denot). k.told x (Failed c.args.trial.cell)) w.chooser-is) (ok_says _ _ (sym w.if-is_ok.ensures.value) c.settle.ensures.steps) w.if-explore.ensures.steps)
+        | attempt-else-is_ok w ↦
             subst (λ (x : Progress). TryFails k m c.args.rules.now.rules c.args.chooser.now (state_of p) c.args.trial.cell c.args.trial.place c.tell-2.new.self (state_of x)) (sym w.progress-is)
-            (try_first e (c.tell-2.ensures ∙ ap (λ (x : g.row.C.Denot). k.told x (Failed c.args.trial.cell)) w.chooser-is) w.in_default.ensures.steps)
+            (try_first e (c.tell-2.ensures ∙ ap (λ (x : g.row.C.Denot). k.told x (Failed c.args.trial.cell)) w.chooser-is) (err_says _ _ (sym w.if-is_ok.ensures.value) c.settle.ensures.steps).1)
       ];
     }
 
@@ -90,15 +90,15 @@ explore-settle-requires g t c =
     let a = able_out c.retreat.new.progress.sets.now c.tries.invariant.2 c.in-Some.ensures.chosen b in
     record { suits = a.suits; full = a.full }
 
-pub explore-returns-in-Err-clause-steps : goal.explore-returns-in-Err-clause-steps
-explore-returns-in-Err-clause-steps g t c =
+pub explore-returns-then-is_err-clause-steps : goal.explore-returns-then-is_err-clause-steps
+explore-returns-then-is_err-clause-steps g t c =
     let b = c.retreat.ensures.back ∙ ap (λ (x : List ℕ). state (out_of x c.in-Some.trial.cell c.in-Some.trial.place) c.attempt.new.progress.used c.attempt.new.progress.weights.now) c.keep.ensures in
-    c.tries.invariant.0 _ _ _ (fails_on c.in-Some.ensures.choice (c.if-attempt.ensures.failed refl) b c.in-Err.ensures.steps)
+    c.tries.invariant.0 _ _ _ (fails_on c.in-Some.ensures.choice (c.if-attempt.ensures.failed refl) b (err_says _ _ c.if-is_err.ensures.negation c.settle.ensures.steps).1)
 
 pub explore-tries-smaller : goal.explore-tries-smaller
 explore-tries-smaller g t c =
     let b = ap (λ (x : State). x.sets) c.retreat.ensures.back ∙ ap (λ (x : List ℕ). out_of x c.in-Some.trial.cell c.in-Some.trial.place) c.keep.ensures in
-    lt_of_le_of_lt c.in_default-settle.ensures.less (out_falls _ _ _ _ c.in-Some.ensures.chosen b)
+    lt_of_le_of_lt c.settle.ensures.less (out_falls _ _ _ _ c.in-Some.ensures.chosen b)
 
 pub explore-tries-preserved : goal.explore-tries-preserved
 explore-tries-preserved g t c =
@@ -107,8 +107,8 @@ explore-tries-preserved g t c =
     let b = c.retreat.ensures.back ∙ ap (λ (x : List ℕ). state (out_of x s.cell s.place) c.attempt.new.progress.used c.attempt.new.progress.weights.now) c.keep.ensures in
     let sets = ap (λ (x : State). x.sets) b in
     let a = able_out c.retreat.new.progress.sets.now c.tries.invariant.2 p.chosen sets in (
-      λ found y u h. c.tries.invariant.0 found y u (goes_on_with p.choice (c.if-attempt.ensures.failed refl) b c.in_default-settle.ensures.steps h),
-      le_of_lt_le c.in_default-settle.ensures.less (out_falls _ _ _ _ p.chosen sets) c.tries.invariant.1,
-      able_settled _ a c.in_default-settle.ensures.law refl,
-      kept_more c.tries.invariant.3 (kept_more c.attempt.ensures.kept (kept_more c.retreat.ensures.kept c.in_default-settle.ensures.kept)),
+      λ found y u h. c.tries.invariant.0 found y u (goes_on_with p.choice (c.if-attempt.ensures.failed refl) b (ok_says _ _ c.if-is_err.ensures.negation c.settle.ensures.steps) h),
+      le_of_lt_le c.settle.ensures.less (out_falls _ _ _ _ p.chosen sets) c.tries.invariant.1,
+      able_settled _ a (ok_says _ _ c.if-is_err.ensures.negation c.settle.ensures.law) refl,
+      kept_more c.tries.invariant.3 (kept_more c.attempt.ensures.kept (kept_more c.retreat.ensures.kept c.settle.ensures.kept)),
     )

@@ -3,7 +3,6 @@ use lib.Bits.{bit_or}
 use Rattle.std.proofs.lemmas.Option.{get_or_from_slice_get}
 use Rattle.bits.specs.Sets.{members, size}
 use Rattle.cores.specs.Fit.{with_first, with_rule, Halves}
-use Rattle.bits.proofs.Size.{size_le}
 use Rattle.cores.proofs.SetFacts.{member_has, members_subset}
 use Rattle.cores.proofs.CoreLaw.{Ahead, at_first, some_left, first_among, halved}
 use Rattle.clash.specs.Seeking.{lasting_of}
@@ -18,12 +17,12 @@ rounds-init g c =
     let s = c.args.self.now in
     let p = s.runner.now in
     let d = c.args.candidates in
-    let e : c.count-left.result ≡ size d = c.count-left.ensures in
+    let e : c.count-left.result ≡ size d = c.count-left.ensures.size in
     let small : d < 2 ^ 64 = omega arith in (
       ([], wrote_none s.log.now s.lines, λ ls u q h. h),
       subst (Ahead (k.runs p) (k.fits p) (k.laws p).lawful d (members d) 0) (sym e) (at_first (k.runs p) (k.fits p) (k.laws p).lawful small (λ r h. h) c.requires.clash),
       omega (arith, c.requires.lines),
-      omega (arith, size_le d),
+      c.count-left.ensures.most,
       keeps_all s,
     )
 
@@ -43,7 +42,7 @@ returns-in-Unmet g c =
     let s = c.args.self.now in
     let m = c.run-alone.result in
     let i = c.rounds.invariant in
-    let e : c.count-left.result ≡ size c.args.candidates = c.count-left.ensures in
+    let e : c.count-left.result ≡ size c.args.candidates = c.count-left.ensures.size in
     let now = c.run-alone.new.self in
     let run = before i.4 (λ x. k.runs x (lasting_of c.rounds.self) m now.sets.now (lasting_of now)) c.run-alone.ensures.steps in
     let keeps = keeps_then i.4 c.run-alone.ensures.keeps in

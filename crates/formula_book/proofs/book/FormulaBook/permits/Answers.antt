@@ -13,21 +13,21 @@ use Rattle.formula_book.proofs.book.FormulaBook.permits.Goals as goal
 pub holds-requires : goal.holds-requires
 holds-requires c = rooted_standing c.args.self.now.nodes.now c.args.formula.now.root c.requires.inside c.requires.rooted
 
-pub returns-then-is_listed : goal.returns-then-is_listed
-returns-then-is_listed c =
+pub returns-then-are_listed : goal.returns-then-are_listed
+returns-then-are_listed c =
     let b = c.args.self.now in
     let lists = lists_of b.lengths.now b.numbers.now in
     let f = c.args.formula.now in
     let row = c.args.row.now in
     let condition = tree (suc f.root) b.nodes.now f.root in
     let first = cells_first f (omega (arith, c.requires.good.few)) in
-    let yes : listed lists (cells_of f) row ≡ true = (listed_decides lists (cells_of f) row).1 (subst (λ cs. Listed lists cs row) first (c.is_listed.ensures.0 c.if-is_listed.true)) in
+    let yes : listed lists (cells_of f) row ≡ true = (listed_decides lists (cells_of f) row).1 (subst (λ cs. Listed lists cs row) first (c.are_listed.ensures.0 c.if-are_listed.true)) in
     c.holds.ensures condition (grounded_stands (suc f.root) b.nodes.now f.root c.requires.rooted)
     ∙ ap (λ ns. truth ns condition) (c.assigned.ensures ∙ ap (λ cs. assigned lists unset cs row) first)
     ∙ sym (ap (λ b. b && truth (assigned lists unset (cells_of f) row) condition) yes)
 
-pub returns-else-is_listed : goal.returns-else-is_listed
-returns-else-is_listed c =
+pub returns-else-are_listed : goal.returns-else-are_listed
+returns-else-are_listed c =
     let b = c.args.self.now in
     let lists = lists_of b.lengths.now b.numbers.now in
     let f = c.args.formula.now in
@@ -35,7 +35,7 @@ returns-else-is_listed c =
     let first = cells_first f (omega (arith, c.requires.good.few)) in
     let no : listed lists (cells_of f) row ≡ false =
     ⊎_elim
-    (λ t. absurd (not_from_Decides c.is_listed.result c.is_listed.ensures c.if-is_listed.false (subst (λ cs. Listed lists cs row) (sym first) ((listed_decides lists (cells_of f) row).0 t))))
+    (λ t. absurd (not_from_Decides c.are_listed.result c.are_listed.ensures c.if-are_listed.false (subst (λ cs. Listed lists cs row) (sym first) ((listed_decides lists (cells_of f) row).0 t))))
     (λ n. n)
     (cases_Bool (listed lists (cells_of f) row)) in
-    c.if-is_listed.false ∙ sym (ap (λ t. t && truth (assigned lists unset (cells_of f) row) (tree (suc f.root) b.nodes.now f.root)) no)
+    c.if-are_listed.false ∙ sym (ap (λ t. t && truth (assigned lists unset (cells_of f) row) (tree (suc f.root) b.nodes.now f.root)) no)

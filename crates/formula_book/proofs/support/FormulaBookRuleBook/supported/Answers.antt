@@ -19,7 +19,7 @@ returns c =
     let lists = lists_of b.lengths.now b.numbers.now in
     let f = c.in-Some.formula.now in
     subst (λ f. Decides c.some_row.result (Supported (rule_of lists b.nodes.now f) c.args.position c.args.place c.args.sets.now)) c.in-Some.ensures.0
-    (formula_supported lists b.nodes.now f c.in-Some.ensures.1 c.args.position c.args.place c.if-position-formula.false c.args.sets.now c.allowed-masks.result (omega arith) c.allowed-masks.ensures
+    (formula_supported lists b.nodes.now f c.in-Some.ensures.1 c.args.position c.args.place c.if-position-formula.false c.args.sets.now c.allowed.result c.listed-masks.result (omega arith) c.allowed.ensures (omega arith) c.listed-masks.ensures
     c.some_row.result
     (λ e.
     let found = c.some_row.ensures.yes e in

@@ -10,14 +10,14 @@ use Rattle.reader.specs.declared.cursor.Text.{Text}
 use Rattle.reader.specs.Places.{behind}
 use Rattle.reader.proofs.Refusals.{out_as}
 use Rattle.reader.proofs.Places.{on, first_in, reads_join}
-use Rattle.reader.proofs.Assembly.{read_not, read_all, read_any, read_last, read_more, room_on, room_read, room_list, room_after, kept_join, ready_open, ready_comma, not_opened, not_followed, inside_not, inside_all, inside_any, after_comma}
+use Rattle.reader.proofs.Assembly.{read_not, read_all, read_any, read_last, read_more, room_on, room_read, room_list, room_after, kept_join, ready_comma, not_opened, not_followed, inside_not, inside_all, inside_any, after_comma}
 use Rattle.reader.proofs.store.Store.+condition_conditions.Goals as goal
 
 pub condition-returns-in_err-inner-clause-read : goal.condition-returns-in_err-inner-clause-read
 condition-returns-in_err-inner-clause-read t c =
     let zero = compares (Number (pos 0)) Equal (Number (pos 0)) in
     out_as c.from_residual.result _ _ c.in_err-inner.field-0.0 c.from_residual.ensures.1
-    (not_opened c.in_err-inner.field-0.0 (78 ∷ 79 ∷ 84 ∷ []) (text zero ++ (41 ∷ [])) (negates zero) (omega arith) c.requires.awaits.1 c.requires.ready word_not refl refl
+    (not_opened c.args.place c.in_err-inner.field-0.0 (78 ∷ 79 ∷ 84 ∷ []) (text zero ++ (41 ∷ [])) (negates zero) (omega arith) c.requires.awaits.1 word_not refl refl
     (kind_not _ (c.sees.ensures.0 c.if-sees.true)) c.in_err-inner.ensures)
 
 pub condition-condition-requires : goal.condition-condition-requires
@@ -26,7 +26,7 @@ condition-condition-requires t c =
       omega (arith, ap (λ (t : Text). length t.bytes.now) i.0.text, i.0.spans.upto, i.0.spans.within),
       (
         (_, inside_not c.requires.awaits.1 i.0),
-        (ready_open (78 ∷ 79 ∷ 84 ∷ []) (omega arith) word_not refl c.requires.ready i.0 i.1, room_on c.requires.room i.0),
+        room_on c.requires.room i.0,
       ),
     )
 
@@ -36,16 +36,10 @@ condition-returns-in_err-end-clause-read t c =
     let r = c.in_ok-after.ensures.read in
     let b = c.in_err-end.ensures in
     out_as c.from_residual-in_err-end.result _ _ c.in_err-end.field-0.0 c.from_residual-in_err-end.ensures.1
-    (first_in i.0 (not_followed (on (λ t. t.cells ≤ 1000000) i.0 (omega arith)) (inside_not c.requires.awaits.1 i.0)
-    (ready_open (78 ∷ 79 ∷ 84 ∷ []) (omega arith) word_not refl c.requires.ready i.0 i.1) r b.1 (λ e. absurd (false≢true e)) b.0))
+    (first_in i.0 (not_followed (on (λ t. t.cells ≤ 1000000) i.0 (omega arith)) (inside_not c.requires.awaits.1 i.0) r b.1 (λ e. absurd (false≢true e)) b.0))
 
-pub condition-last-child-requires-clause-some : goal.condition-last-child-requires-clause-some
-condition-last-child-requires-clause-some t c = (room_read (room_on c.requires.room c.in_ok-inner.ensures.0) c.in_ok-after.ensures.read).0
-
-pub condition-last-child-requires-clause-few : goal.condition-last-child-requires-clause-few
-condition-last-child-requires-clause-few t c =
-    let m = room_read (room_on c.requires.room c.in_ok-inner.ensures.0) c.in_ok-after.ensures.read in
-    omega (arith, m.1, c.requires.room.few)
+pub condition-last-child-requires : goal.condition-last-child-requires
+condition-last-child-requires t c = record { some = (room_read (room_on c.requires.room c.in_ok-inner.ensures.0) c.in_ok-after.ensures.read).0 }
 
 pub condition-push-requires : goal.condition-push-requires
 condition-push-requires t c =
@@ -56,13 +50,13 @@ pub condition-returns-then-sees-clause-read : goal.condition-returns-then-sees-c
 condition-returns-then-sees-clause-read t c =
     let i = c.in_ok-inner.ensures in
     let r = c.in_ok-after.ensures.read in
-    read_not i.0 r c.in_ok-end.ensures (room_read (room_on c.requires.room i.0) r).1 c.last-child.ensures c.push.ensures.nodes c.push.ensures.used
+    read_not i.0 i.1 r c.in_ok-end.ensures (room_read (room_on c.requires.room i.0) r).1 c.last-child.ensures c.push.ensures.nodes c.push.ensures.used
 
 pub condition-returns-in_err-inner-2-clause-read : goal.condition-returns-in_err-inner-2-clause-read
 condition-returns-in_err-inner-2-clause-read t c =
     let zero = compares (Number (pos 0)) Equal (Number (pos 0)) in
     out_as c.from_residual-in_err-inner-2.result _ _ c.in_err-inner-2.field-0.0 c.from_residual-in_err-inner-2.ensures.1
-    (not_opened c.in_err-inner-2.field-0.0 (65 ∷ 78 ∷ 68 ∷ []) (text zero ++ (41 ∷ [])) (all (one zero)) (omega arith) c.requires.awaits.1 c.requires.ready word_and refl refl
+    (not_opened c.args.place c.in_err-inner-2.field-0.0 (65 ∷ 78 ∷ 68 ∷ []) (text zero ++ (41 ∷ [])) (all (one zero)) (omega arith) c.requires.awaits.1 word_and refl refl
     (kind_all _ (c.sees-2.ensures.0 c.if-sees-2.true)) c.in_err-inner-2.ensures)
 
 pub condition-conditions-requires : goal.condition-conditions-requires
@@ -71,20 +65,20 @@ condition-conditions-requires t c =
       omega (arith, ap (λ (t : Text). length t.bytes.now) i.0.text, i.0.spans.upto, i.0.spans.within),
       (
         inside_all c.requires.awaits.1 i.0,
-        (ready_open (65 ∷ 78 ∷ 68 ∷ []) (omega arith) word_and refl c.requires.ready i.0 i.1, room_on c.requires.room i.0),
+        room_on c.requires.room i.0,
       ),
     )
 
 pub condition-returns-then-sees-2-clause-read : goal.condition-returns-then-sees-2-clause-read
 condition-returns-then-sees-2-clause-read t c =
     let i = c.in_ok-inner-2.ensures in
-    MatchResult-weaker c.conditions.result c.conditions.ensures.read (λ end r. read_all i.0 r) (λ e h. first_in i.0 h)
+    MatchResult-weaker c.conditions.result c.conditions.ensures.read (λ end r. read_all i.0 i.1 r) (λ e h. first_in i.0 h)
 
 pub condition-returns-in_err-inner-3-clause-read : goal.condition-returns-in_err-inner-3-clause-read
 condition-returns-in_err-inner-3-clause-read t c =
     let zero = compares (Number (pos 0)) Equal (Number (pos 0)) in
     out_as c.from_residual-in_err-inner-3.result _ _ c.in_err-inner-3.field-0.0 c.from_residual-in_err-inner-3.ensures.1
-    (not_opened c.in_err-inner-3.field-0.0 (79 ∷ 82 ∷ []) (text zero ++ (41 ∷ [])) (any (one zero)) (omega arith) c.requires.awaits.1 c.requires.ready word_or refl refl
+    (not_opened c.args.place c.in_err-inner-3.field-0.0 (79 ∷ 82 ∷ []) (text zero ++ (41 ∷ [])) (any (one zero)) (omega arith) c.requires.awaits.1 word_or refl refl
     (kind_any _ (c.sees-3.ensures.0 c.if-sees-3.true)) c.in_err-inner-3.ensures)
 
 pub condition-conditions-requires-then-sees-3 : goal.condition-conditions-requires-then-sees-3
@@ -93,29 +87,29 @@ condition-conditions-requires-then-sees-3 t c =
       omega (arith, ap (λ (t : Text). length t.bytes.now) i.0.text, i.0.spans.upto, i.0.spans.within),
       (
         inside_any c.requires.awaits.1 i.0,
-        (ready_open (79 ∷ 82 ∷ []) (omega arith) word_or refl c.requires.ready i.0 i.1, room_on c.requires.room i.0),
+        room_on c.requires.room i.0,
       ),
     )
 
 pub condition-returns-then-sees-3-clause-read : goal.condition-returns-then-sees-3-clause-read
 condition-returns-then-sees-3-clause-read t c =
     let i = c.in_ok-inner-3.ensures in
-    MatchResult-weaker c.conditions-then-sees-3.result c.conditions-then-sees-3.ensures.read (λ end r. read_any i.0 r) (λ e h. first_in i.0 h)
+    MatchResult-weaker c.conditions-then-sees-3.result c.conditions-then-sees-3.ensures.read (λ end r. read_any i.0 i.1 r) (λ e h. first_in i.0 h)
 
 pub conditions-condition-requires : goal.conditions-condition-requires
-conditions-condition-requires t c = (omega arith, ((_, list_first (behind c.args.at) c.requires.awaits.1), (c.requires.ready, c.requires.room)))
+conditions-condition-requires t c = (omega arith, ((_, list_first (behind c.args.place.at) c.requires.awaits.1), c.requires.room))
 
 pub conditions-returns-in_default-clause-read : goal.conditions-returns-in_default-clause-read
 conditions-returns-in_default-clause-read t c =
     let r = c.in_ok-after.ensures.read in
     MatchResult-weaker c.expect.result c.expect.ensures (λ end q. read_last r q)
-    (λ e b. not_followed (omega arith) (list_first (behind c.args.at) c.requires.awaits.1) c.requires.ready r b.1 (λ _. c.in_default.ensures) b.0)
+    (λ e b. not_followed (omega arith) (list_first (behind c.args.place.at) c.requires.awaits.1) r b.1 (λ _. c.in_default.ensures) b.0)
 
-pub conditions-last-first-requires-clause-some : goal.conditions-last-first-requires-clause-some
-conditions-last-first-requires-clause-some t c = (room_read c.requires.room c.in_ok-after.ensures.read).0
+pub conditions-last-first-requires : goal.conditions-last-first-requires
+conditions-last-first-requires t c = record { some = (room_read c.requires.room c.in_ok-after.ensures.read).0 }
 
-pub conditions-last-first-requires-clause-few : goal.conditions-last-first-requires-clause-few
-conditions-last-first-requires-clause-few t c = omega (arith, (room_read c.requires.room c.in_ok-after.ensures.read).1, c.requires.room.few)
+pub conditions-invariant_of-more : goal.conditions-invariant_of-more
+conditions-invariant_of-more t c = record { ready = ready_comma (omega arith) c.in_ok-after.ensures.read c.in-Some.ensures }
 
 pub conditions-conditions-requires : goal.conditions-conditions-requires
 conditions-conditions-requires t c =
@@ -125,7 +119,7 @@ conditions-conditions-requires t c =
       omega (arith, ap (λ (t : Text). length t.bytes.now) both.text, r.read.reads.spans.upto, r.read.reads.spans.within, q.spans.upto, both.spans.within),
       (
         after_comma r.read.is c.requires.awaits.1 r.read.reads q,
-        (ready_comma (omega arith) c.requires.ready r.read q, room_on (room_after c.requires.room r.read r.kept) q),
+        room_on (room_after c.requires.room r.read r.kept) q,
       ),
     )
 
@@ -134,16 +128,10 @@ conditions-returns-in_err-end-clause-kept t c =
     let r = c.in_ok-after.ensures in
     kept_join (omega (arith, r.read.count)) r.kept c.in_err-end.ensures.kept
 
-pub conditions-last-rest-requires-clause-some : goal.conditions-last-rest-requires-clause-some
-conditions-last-rest-requires-clause-some t c =
+pub conditions-last-rest-requires : goal.conditions-last-rest-requires
+conditions-last-rest-requires t c =
     let r = c.in_ok-after.ensures in
-    (room_list (room_on (room_after c.requires.room r.read r.kept) c.in-Some.ensures) c.in_ok-end.ensures.read).0
-
-pub conditions-last-rest-requires-clause-few : goal.conditions-last-rest-requires-clause-few
-conditions-last-rest-requires-clause-few t c =
-    let r = c.in_ok-after.ensures in
-    let m = room_list (room_on (room_after c.requires.room r.read r.kept) c.in-Some.ensures) c.in_ok-end.ensures.read in
-    omega (arith, m.1, r.kept.long, c.requires.room.few)
+    record { some = (room_list (room_on (room_after c.requires.room r.read r.kept) c.in-Some.ensures) c.in_ok-end.ensures.read).0 }
 
 pub conditions-push-requires : goal.conditions-push-requires
 conditions-push-requires t c =
@@ -156,5 +144,5 @@ conditions-returns-clause-read t c =
     let r = c.in_ok-after.ensures in
     let l = c.in_ok-end.ensures.read in
     let m = room_list (room_on (room_after c.requires.room r.read r.kept) c.in-Some.ensures) l in
-    read_more r.read c.in-Some.ensures l (omega (arith, m.1, r.kept.long)) c.last-first.ensures c.last-rest.ensures
+    read_more r.read c.in-Some.ensures refl l (omega (arith, m.1, r.kept.long)) c.last-first.ensures c.last-rest.ensures
     (c.push.ensures.nodes ∙ ap (set c.conditions.new.self.nodes.now c.conditions.new.self.used) c.node.ensures) c.push.ensures.used

@@ -1,7 +1,6 @@
 use Rattle.std.proofs.Common.{arith}
 use Rattle.reader.proofs.Wholes.{await_first, junk_behind, many_cells, no_cell, formula_read}
 use Rattle.reader.proofs.Places.{some_byte, no_byte}
-use Rattle.reader.proofs.Assembly.{room_read}
 use Rattle.reader.proofs.store.Store.whole.Goals.{in_default-via-in-Some+else-named-gt0, in_default-via-in_default}
 use Rattle.reader.proofs.store.Store.whole.Goals as goal
 
@@ -11,12 +10,6 @@ condition-requires-clause-awaits c = (_, await_first c.args.start c.requires.fir
 pub returns-then-is_some-clause-read : goal.returns-then-is_some-clause-read
 returns-then-is_some-clause-read c =
     junk_behind (omega arith) c.requires.first c.in_ok-end.ensures.read c.fault.ensures (some_byte c.in_ok-end.end c.byte.result c.is_some.ensures c.if-is_some.true c.byte.ensures)
-
-pub named-requires-clause-within : goal.named-requires-clause-within
-named-requires-clause-within c = omega (arith, (room_read c.requires.room c.in_ok-end.ensures.read).1, c.in_ok-end.ensures.kept.long)
-
-pub last-requires-clause-few : goal.last-requires-clause-few
-last-requires-clause-few c = omega (arith, (room_read c.requires.room c.in_ok-end.ensures.read).1, c.requires.room.few)
 
 pub returns-in-Some-clause-read : goal.returns-in-Some-clause-read
 returns-in-Some-clause-read c =
