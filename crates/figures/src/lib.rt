@@ -11,7 +11,7 @@ use network::book::RuleBook;
 use network::tries::remaining;
 
 /// The cells of a run: what remains at each, the rules of a book that are listed, and their weights.
-// It borrows for one choice what `settling`, a crate beside this one, holds in two structs: what is lent for the run, and what changes.
+// It borrows for one choice what a search holds in `Progress` of `settling`, a crate beside this one.
 #[derive(Drop)]
 pub struct Cells<'a, B: RuleBook> {
     pub book: &'a B,

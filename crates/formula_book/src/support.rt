@@ -8,6 +8,7 @@ ghost use Rattle.formula_book.specs.Support.{ListedOf, lists_of};
 use crate::book::FormulaBook;
 use bits::first;
 use network::book::RuleBook;
+use network::masks::Masks;
 use network::tries::{allowed, some_row};
 use reader::formula::Formula;
 
@@ -68,8 +69,9 @@ impl<'a> RuleBook for FormulaBook<'a> {
             return false;
         }
         let masks = self.listed(formula.cells, allowed(formula.cells, position, place, sets));
-        some_row(&masks[..formula.width as usize], |row| {
-            self.permits(formula, row)
-        })
+        let masks = Masks {
+            each: &masks[..formula.width as usize],
+        };
+        some_row(masks, |row| self.permits(formula, row))
     }
 }

@@ -1,5 +1,5 @@
 pub mod Books
 pub mod Meeting
 pub mod Chosen
-pub mod Masks
+pub mod Allowing
 pub mod Supports

@@ -4,5 +4,6 @@
 pub mod book;
 pub mod cells;
 pub mod joined;
+pub mod masks;
 pub mod tries;
 pub mod turned;

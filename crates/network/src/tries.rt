@@ -3,33 +3,31 @@ ghost use Rattle.std.specs.Prelude.{◌≡◌, ℕ, ◌≤◌, true, false, List
 ghost use Rattle.std.specs.Fn.{FnReturnsAt};
 ghost use Rattle.network.specs.Tries.{Allows, GoesOn, Tried};
 
+use crate::masks::Masks;
 use bits::{has, only};
 
-// `length ≤ 4` stays a clause: a struct round the masks would be made for it in each kind of book, and spare no line of code.
 /// Whether a row with an allowed place at each position passes a test; it stops at the first.
-pub fn some_row<F: Fn(&[u8]) -> bool>(masks: &[u64], passes: F) -> bool
-    requires few { length masks.now ≤ 4 }
+pub fn some_row<F: Fn(&[u8]) -> bool>(masks: Masks<'_>, passes: F) -> bool
     requires callable { F.IsAlwaysCallable passes }
-    ensures yes { result ≡ true → (row : List ℕ) × Tried masks.now row × FnReturnsAt F.Fn passes row true }
-    ensures no { result ≡ false → (row : List ℕ) → Tried masks.now row → FnReturnsAt F.Fn passes row false }
+    ensures yes { result ≡ true → (row : List ℕ) × Tried masks.entry.each.now row × FnReturnsAt F.Fn passes row true }
+    ensures no { result ≡ false → (row : List ℕ) → Tried masks.entry.each.now row → FnReturnsAt F.Fn passes row false }
 {
     goes_on(masks, &passes, [0; 4], 0)
 }
 
 /// Whether such a row that begins with the first `at` of these places passes the test.
-fn goes_on<F: Fn(&[u8]) -> bool>(masks: &[u64], passes: &F, places: [u8; 4], at: usize) -> bool
-    requires few { length masks.now ≤ 4 }
+fn goes_on<F: Fn(&[u8]) -> bool>(masks: Masks<'_>, passes: &F, places: [u8; 4], at: usize) -> bool
     requires callable { F.IsAlwaysCallable passes.now }
-    requires within { at ≤ length masks.now }
-    ensures yes { result ≡ true → (row : List ℕ) × GoesOn masks.now places at row × FnReturnsAt F.Fn passes.now row true }
-    ensures no { result ≡ false → (row : List ℕ) → GoesOn masks.now places at row → FnReturnsAt F.Fn passes.now row false }
+    requires within { at ≤ length masks.each.now }
+    ensures yes { result ≡ true → (row : List ℕ) × GoesOn masks.entry.each.now places at row × FnReturnsAt F.Fn passes.now row true }
+    ensures no { result ≡ false → (row : List ℕ) → GoesOn masks.entry.each.now places at row → FnReturnsAt F.Fn passes.now row false }
 {
-    if at == masks.len() {
+    if at == masks.each.len() {
         return passes(&places[..at]);
     }
     // A loop and no `any`: a closure that calls this function would have to repeat its clauses.
     for place in 0..64u8 {
-        if has(masks[at], place) {
+        if has(masks.each[at], place) {
             let mut next = places;
             next[at] = place;
             if goes_on(masks, passes, next, at + 1) {

@@ -1,9 +1,10 @@
 //! Rows of one rule: which are stored, and which are allowed.
-ghost use Rattle.std.specs.Prelude.{◌≡◌, ℕ, ◌/◌, ◌<◌, ◌≤◌, length, Decides};
+ghost use Rattle.std.specs.Prelude.{◌≡◌, ℕ, ◌/◌, ◌<◌, length, Decides};
 ghost use Rattle.network.specs.Tries.{Tried};
 ghost use Rattle.rows.specs.Support.{Unstored, row_in, rows_within};
 
 use bits::{count, has};
+use network::masks::Masks;
 use network::tries::some_row;
 
 /// Whether a row has an allowed place at each position.
@@ -18,12 +19,12 @@ fn is_allowed(row: &[u8], masks: &[u64]) -> bool
 }
 
 /// Whether some stored row has allowed places only; stops at the first.
-pub fn some_stored(rows: &[u8], masks: &[u64]) -> bool
-    requires { 0 < length masks.now }
-    ensures { Decides result ((j : ℕ) × (j < length rows.now / length masks.now) × Tried masks.now (row_in (length masks.now) rows.now j)) }
+pub fn some_stored(rows: &[u8], masks: Masks<'_>) -> bool
+    requires { 0 < length masks.each.now }
+    ensures { Decides result ((j : ℕ) × (j < length rows.now / length masks.entry.each.now) × Tried masks.entry.each.now (row_in (length masks.entry.each.now) rows.now j)) }
 {
-    rows.chunks_exact(masks.len())
-        .any(|row| is_allowed(row, masks))
+    rows.chunks_exact(masks.each.len())
+        .any(|row| is_allowed(row, masks.each))
 }
 
 /// Whether a row is one of the stored ones, of `width` places each.
@@ -35,13 +36,11 @@ fn is_stored(rows: &[u8], width: usize, row: &[u8]) -> bool
 }
 
 /// How many rows have allowed places only.
-// `length ≤ 4` stays a clause here and below, as in `network::tries`.
-fn allowed_rows(masks: &[u64]) -> u32
-    requires { length masks.now ≤ 4 }
-    ensures { result ≡ rows_within masks.now (length masks.now) }
+fn allowed_rows(masks: Masks<'_>) -> u32
+    ensures { result ≡ rows_within masks.entry.each.now (length masks.entry.each.now) }
 {
     let mut rows = 1;
-    for mask in masks {
+    for mask in masks.each {
         rows *= count(*mask) as u32;
     }
     rows
@@ -49,12 +48,11 @@ fn allowed_rows(masks: &[u64]) -> u32
 
 /// Whether some row with allowed places only is not stored.
 /// Where more rows are allowed than stored, one is not, and none is tried. So no more rows are tried than are stored.
-pub fn some_unstored(rows: &[u8], masks: &[u64]) -> bool
-    requires some { 0 < length masks.now }
-    requires few { length masks.now ≤ 4 }
-    ensures { Decides result (Unstored (length rows.now / length masks.now) rows.now masks.now) }
+pub fn some_unstored(rows: &[u8], masks: Masks<'_>) -> bool
+    requires { 0 < length masks.each.now }
+    ensures { Decides result (Unstored (length rows.now / length masks.entry.each.now) rows.now masks.entry.each.now) }
 {
     let allowed = allowed_rows(masks);
-    allowed as usize > rows.len() / masks.len()
-        || allowed > 0 && some_row(masks, |row| !is_stored(rows, masks.len(), row))
+    allowed as usize > rows.len() / masks.each.len()
+        || allowed > 0 && some_row(masks, |row| !is_stored(rows, masks.each.len(), row))
 }

@@ -7,6 +7,7 @@ use crate::book::RowsBook;
 use crate::rule::{Kind, RowsRule};
 use crate::search::{some_stored, some_unstored};
 use network::book::RuleBook;
+use network::masks::Masks;
 use network::tries::allowed;
 
 /// The rows that a rule stores, one after another.
@@ -56,7 +57,9 @@ impl<'a> RuleBook for RowsBook<'a> {
             return false;
         }
         let masks = allowed(rule.cells, position, place, sets);
-        let masks = &masks[..rule.width as usize];
+        let masks = Masks {
+            each: &masks[..rule.width as usize],
+        };
         let rows = stored_rows(rule, self.bytes);
         match rule.kind {
             Kind::Permitted => some_stored(rows, masks),

@@ -4,7 +4,6 @@ use Rattle.std.proofs.lemmas.Nat.{mul-le}
 use Rattle.std.proofs.lemmas.List.{get_or-set_same}
 use Rattle.std.proofs.lemmas.Bool.{cases_lt, lt-ltb, le-ltb}
 use Rattle.bits.specs.Sets.{size}
-use Rattle.network.specs.Book.{BookMeaning}
 use Rattle.runs.specs.Law.{Full, Within}
 use Rattle.runs.proofs.MoreBits.{size_sub, size_pow}
 use Rattle.runs.proofs.Steps.{alone_within, alone_full}
@@ -73,11 +72,10 @@ room_less : (p q n w : ℕ) → p ≤ q → q * n ≤ w → p * n ≤ w
 room_less p q n w l h = let a : p * n ≤ q * n = mul-le-mul_right n l in omega arith
 
 -- ---- what a search wants, kept on its way
-pub able_sub : {m : BookMeaning} {s : List ℕ} {work : ℕ} (t : List ℕ) (work' : ℕ) → Able m s work → length t ≡ length s → Full t → Within t s
-    → work' ≡ work → Able m t work'
-able_sub {m} {s} {work} t work' a e full w ek = record {
+pub able_sub : {s : List ℕ} {work : ℕ} (t : List ℕ) (work' : ℕ) → Able s work → length t ≡ length s → Full t → Within t s
+    → work' ≡ work → Able t work'
+able_sub {s} {work} t work' a e full w ek = record {
   few = omega (arith, a.few);
-  suits = rw e a.suits;
   full = full;
   room = rw (ek, e) (room_less (opens t) (opens s) (length s) work (opens_sub t s e w) a.room);
 }
@@ -88,16 +86,15 @@ opens_alone sets c v k =
     let one : size (get_or (set sets c (2 ^ v)) c 0) ≤ 1 = omega (arith, ap size (get_or-set_same sets c (2 ^ v) 0 k.within), size_pow v) in
     opens_less (set sets c (2 ^ v)) sets c (length-set sets c (2 ^ v)) (alone_within sets c v k.within k.there) k.within one k.opened
 
-pub able_alone : {m : BookMeaning} {sets : List ℕ} {work c v : ℕ} (work' : ℕ) → Able m sets work → Chosen sets c v
-    → work' + length sets ≡ work → Able m (set sets c (2 ^ v)) work'
-able_alone {m} {sets} {work} {c} {v} work' a k ek =
+pub able_alone : {sets : List ℕ} {work c v : ℕ} (work' : ℕ) → Able sets work → Chosen sets c v
+    → work' + length sets ≡ work → Able (set sets c (2 ^ v)) work'
+able_alone {sets} {work} {c} {v} work' a k ek =
     let e : length (set sets c (2 ^ v)) ≡ length sets = length-set sets c (2 ^ v) in
     record {
       few = omega (arith, a.few);
-      suits = rw e a.suits;
       full = alone_full sets c v k.within k.there.0 a.full;
       room = rw e (room_rest (opens (set sets c (2 ^ v))) (opens sets) (length sets) work work' (opens_alone sets c v k) a.room ek);
     }
 
-pub frame_room : {m : BookMeaning} {sets : List ℕ} {work c v : ℕ} → Able m sets work → Chosen sets c v → length sets ≤ work
-frame_room {m} {sets} {work} {c} {v} a k = room_frame (opens (set sets c (2 ^ v))) (opens sets) (length sets) work (opens_alone sets c v k) a.room
+pub frame_room : {sets : List ℕ} {work c v : ℕ} → Able sets work → Chosen sets c v → length sets ≤ work
+frame_room {sets} {work} {c} {v} a k = room_frame (opens (set sets c (2 ^ v))) (opens sets) (length sets) work (opens_alone sets c v k) a.room

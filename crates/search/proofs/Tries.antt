@@ -92,11 +92,11 @@ module _ {C : Type 0} {k : Machine C} {m : BookMeaning} {listed : ℕ} where
   goes_on_with {u = u} h f e p q = goes_on h f (subst (λ (z : State). Settles m listed z u) e p) q
 
 -- ---- after a failed try: the sets from before it without its place
-pub able_out : {m : BookMeaning} {sets : List ℕ} {work c v : ℕ} (b : List ℕ) → Able m sets work → Chosen sets c v → b ≡ out_of sets c v → Able m b work
-able_out {m} {sets} {work} {c} {v} b a k e =
-    subst (λ (x : List ℕ). Able m x work) (sym e)
+pub able_out : {sets : List ℕ} {work c v : ℕ} (b : List ℕ) → Able sets work → Chosen sets c v → b ≡ out_of sets c v → Able b work
+able_out {sets} {work} {c} {v} b a k e =
+    subst (λ (x : List ℕ). Able x work) (sym e)
     (able_sub (out_of sets c v) work a (length-set sets c (left_at sets c - 2 ^ v)) (open_full sets c v k.within k.opened k.there.1 a.full)
     (out_within sets c v k.within k.there.1) refl)
 
-pub able_settled : {m : BookMeaning} {listed : ℕ} {s t : State} {work : ℕ} (work' : ℕ) → Able m s.sets work → Settled m listed s t → work' ≡ work → Able m t.sets work'
+pub able_settled : {m : BookMeaning} {listed : ℕ} {s t : State} {work : ℕ} (work' : ℕ) → Able s.sets work → Settled m listed s t → work' ≡ work → Able t.sets work'
 able_settled {t = t} work' a b ek = able_sub t.sets work' a b.long b.full b.inside ek

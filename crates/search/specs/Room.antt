@@ -1,17 +1,15 @@
 -- What a search wants of its sets and of its work buffer. Assumes nothing.
 use Rattle.std.specs.Prelude.{ℕ, ◌+◌, ◌*◌, ◌≤◌, cond, List, [], ◌∷◌, length, nat_lt}
 use Rattle.bits.specs.Sets.{size}
-use Rattle.network.specs.Book.{BookMeaning}
-use Rattle.runs.specs.Law.{Suits, Full}
+use Rattle.runs.specs.Law.{Full}
 
 -- how many cells are open
 unfoldable pub opens : List ℕ → ℕ
 opens [] = 0
 opens (places ∷ sets) = cond (nat_lt 1 (size places)) 1 0 + opens sets
 
--- at most 64 cells, a book that suits them, some place at each, and room for a frame for each open cell
-pub record Able (m : BookMeaning) (sets : List ℕ) (work : ℕ) : Type 0 where
+-- at most 64 cells, some place at each, and room for a frame for each open cell
+pub record Able (sets : List ℕ) (work : ℕ) : Type 0 where
   pub few : length sets ≤ 64
-  pub suits : Suits m (length sets)
   pub full : Full sets
   pub room : opens sets * length sets ≤ work

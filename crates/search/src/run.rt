@@ -10,24 +10,22 @@ use crate::explore::explore;
 use choosers::chooser::{Chooser, Event};
 use network::book::RuleBook;
 use runs::line::{Line, Verdict};
-use settling::listed::Listed;
 use settling::progress::Progress;
 
 /// Settles the starting sets, and goes on from there: true is a filling.
 fn search<B: RuleBook, C: Chooser>(
-    rules: &Listed<'_, B>,
+    progress: &mut Progress<'_, B>,
     chooser: &mut C,
     work: &mut [u64],
-    progress: &mut Progress<'_>,
 ) -> bool
-    requires { Able (B.RuleBook.meaning rules.now.book.now) progress.old.sets.now (length work.old) }
+    requires { Able progress.old.sets.now (length work.old) }
     ensures kept { Kept progress.old progress.new }
-    ensures steps { Searches C.Chooser.meaning (B.RuleBook.meaning rules.now.book.now) rules.now.rules chooser.old (state_of progress.old) result chooser.new (state_of progress.new) }
+    ensures steps { Searches C.Chooser.meaning (B.RuleBook.meaning progress.old.book.now) progress.old.rules chooser.old (state_of progress.old) result chooser.new (state_of progress.new) }
 {
-    if rules.settle(progress).is_err() {
+    if progress.settle().is_err() {
         return false;
     }
-    explore(rules, chooser, work, progress)
+    explore(progress, chooser, work)
 }
 
 /// The line of a run: where it found a filling, no rule is used.
@@ -69,15 +67,13 @@ pub fn run<B: RuleBook, C: Chooser>(
 {
     chooser.tell(Event::Start);
     sets.copy_from_slice(start);
-    let rules = Listed {
+    let mut progress = Progress {
         book,
         rules: listed,
-    };
-    let mut progress = Progress {
         sets,
         used: 0,
         weights,
     };
-    let found = search(&rules, chooser, work, &mut progress);
+    let found = search(&mut progress, chooser, work);
     line_of(listed, found, progress.used)
 }

@@ -1,5 +1,5 @@
 use Rattle.std.proofs.Common.{rules, ◌≡◌, ℕ, ◌<◌, get_or}
-use Rattle.network.proofs.Masks.{masks_allow}
+use Rattle.network.proofs.Allowing.{masks_allow}
 use Rattle.network.proofs.tries.allowed.Goals as goal
 
 pub returns : goal.returns

@@ -15,12 +15,12 @@ decreases-explore g l = 2 * total l.progress.now.sets.now + 1
 abbrev pub invariant-explore-tries : goal.invariant-explore-tries
 invariant-explore-tries g l =
     let k = g.C.Chooser.meaning in
-    let m = g.B.RuleBook.meaning l.rules.book.now in
+    let m = g.B.RuleBook.meaning in
     ((found : Bool) (y : g.row.C.Denot) (t : State)
-    → Explores k m l.rules.rules l.chooser (state_of l.progress) found y t
-    → Explores k m l.rules.rules l.initial.chooser (state_of l.initial.progress) found y t)
+    → Explores k (m l.progress.book.now) l.progress.rules l.chooser (state_of l.progress) found y t
+    → Explores k (m l.initial.progress.book.now) l.initial.progress.rules l.initial.chooser (state_of l.initial.progress) found y t)
     × (total l.progress.sets.now ≤ total l.initial.progress.sets.now)
-    × Able m l.progress.sets.now (length l.initial.work)
+    × Able l.progress.sets.now (length l.initial.work)
     × Kept l.initial.progress l.progress
 
 abbrev pub decreases-explore-tries : goal.decreases-explore-tries

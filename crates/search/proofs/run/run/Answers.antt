@@ -13,11 +13,9 @@ use Rattle.search.proofs.run.run.Goals as goal
 
 pub search-found-requires : goal.search-found-requires
 search-found-requires g c =
-    let m = g.B.RuleBook.meaning c.args.book.now in
-    subst (λ (x : List ℕ). Able m x (length c.args.work.now)) (sym c.copy_from_slice.ensures.after)
+    subst (λ (x : List ℕ). Able x (length c.args.work.now)) (sym c.copy_from_slice.ensures.after)
     (record {
       few = c.requires.ready.few;
-      suits = c.requires.ready.suits;
       full = c.requires.ready.full;
       room = first_room c.args.start.now (length c.args.work.now) c.requires.ready.few c.requires.room;
     })

@@ -11,4 +11,6 @@ pub explore-requires : goal.explore-requires
 explore-requires g c = able_settled _ c.requires (ok_says _ _ c.if-is_err.ensures.negation c.settle.ensures.law) refl
 
 pub returns : goal.returns
-returns g c = record { kept = kept_more c.settle.ensures.kept c.explore.ensures.kept; steps = settled (ok_says _ _ c.if-is_err.ensures.negation c.settle.ensures.steps) c.explore.ensures.steps }
+returns g c =
+    let k = c.settle.ensures.kept in
+    record { kept = kept_more k c.explore.ensures.kept; steps = settled (ok_says _ _ c.if-is_err.ensures.negation c.settle.ensures.steps) (rw (k.book, k.rules) at c.explore.ensures.steps) }

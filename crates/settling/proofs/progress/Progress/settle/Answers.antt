@@ -4,7 +4,7 @@ use Rattle.runs.specs.Settle.{Settles.rest, Settles.again, Fails.at_once, Fails.
 use Rattle.runs.proofs.Settling.{settles_law, settles_le, fails_law, fails_le}
 use Rattle.runs.proofs.Unique.{only_settles, only_fails}
 use Rattle.settling.proofs.Reports.{report_differs, kept_none, kept_more}
-use Rattle.settling.proofs.listed.Listed.settle.Goals as goal
+use Rattle.settling.proofs.progress.Progress.settle.Goals as goal
 
 pub loop-init : goal.loop-init
 loop-init g c = (λ t h. h, λ r t h. h, kept_none _)
@@ -17,7 +17,7 @@ loop-preserved g c =
     let i = c.loop.invariant in
     let f = c.in_ok-sweep.ensures in
     let d = report_differs (rw c.if-branch.true at f.steps.1) in
-    (λ t h. i.0 t (again f.steps.0 d h), λ r t h. i.1 r t (later f.steps.0 d h), kept_more i.2 f.kept)
+    (λ t h. i.0 t (again f.steps.0 d (rw (f.kept.book, f.kept.rules) at h)), λ r t h. i.1 r t (later f.steps.0 d (rw (f.kept.book, f.kept.rules) at h)), kept_more i.2 f.kept)
 
 pub returns-in_err-sweep : goal.returns-in_err-sweep
 returns-in_err-sweep g c =
@@ -25,7 +25,7 @@ returns-in_err-sweep g c =
     let p = err_from_is_err_and c.from_residual.result c.from_residual.ensures.1 in
     let f = c.in_err-sweep.ensures in
     let a = i.1 _ _ (at_once f.steps) in
-    record { kept = kept_more i.2 f.kept; steps = rw (p.1, p.2) a; only = rw (p.1, p.2) (only_fails a); law = rw p.1 (fails_law _ _ _ c.requires.suits refl a); less = fails_le _ _ _ c.requires.suits refl a }
+    record { kept = kept_more i.2 f.kept; steps = rw (p.1, p.2) a; only = rw (p.1, p.2) (only_fails a); law = rw p.1 (fails_law _ _ _ c.args.self.now.suits refl a); less = fails_le _ _ _ c.args.self.now.suits refl a }
 
 pub returns : goal.returns
 returns g c =
@@ -36,6 +36,6 @@ returns g c =
       kept = kept_more i.2 f.kept;
       steps = a;
       only = only_settles a;
-      law = settles_law _ _ _ c.requires.suits (g.B.RuleBook.laws c.args.self.now.book.now) refl c.requires.full a;
-      less = settles_le _ _ _ c.requires.suits refl a;
+      law = settles_law _ _ _ c.args.self.now.suits (g.B.RuleBook.laws c.args.self.now.book.now) refl c.requires a;
+      less = settles_le _ _ _ c.args.self.now.suits refl a;
     }
