@@ -1,36 +1,9 @@
--- A grounded node stands for its tree. Assumes nothing.
-use Rattle.std.proofs.Common.{◌≡◌, ℕ, zero, suc, ◌<◌, ◌≤◌, Bool, true, ◌&&◌, ltb, List, length, get_or, sym, refl, ap, ◌∙◌, ⊎_elim, arith}
-use Rattle.std.proofs.lemmas.Bool.{and_parts, ltb-true, lt-ltb, le-ltb, cases_lt, false≢true}
+-- Grounded nodes, looked at deep enough. Assumes nothing.
+use Rattle.std.proofs.Common.{◌≡◌, ℕ, zero, suc, ◌<◌, ◌≤◌, Bool, ◌&&◌, ltb, List, get_or, sym, refl, ap, ◌∙◌, ⊎_elim, arith}
+use Rattle.std.proofs.lemmas.Bool.{lt-ltb, le-ltb, cases_lt}
 use Rattle.formulas.specs.declared.node.Node.{Node}
 use Rattle.formulas.specs.declared.node.Node.TheVariants.{Free, Compare, Not, And, Or}
-use Rattle.formulas.specs.Layout.{Stands, Standing}
-use Rattle.formula_book.specs.Trees.{node_tree, tree, child, node_grounded, grounded}
-
--- a node whose children stand for their trees
-node_stands : (n : ℕ) (ns : List Node) → ((j : ℕ) → grounded n ns j ≡ true → Stands ns j (tree n ns j)) →
-    (i : ℕ) (x : Node) → get_or ns i Free ≡ x → node_grounded (grounded n ns) i x ≡ true → Stands ns i (node_tree (tree n ns) x)
-node_stands n ns ih i Free e g = absurd (false≢true g)
-node_stands n ns ih i (Compare a o b) e g = e
-node_stands n ns ih i (Not j) e g =
-    let p = and_parts (ltb j i) (grounded n ns j) g in
-    (j, ltb-true j i p.0, e, ih j p.1)
-node_stands n ns ih i (And j k) e g =
-    let p = and_parts (child (grounded n ns) i j) (child (grounded n ns) i k) g in
-    let q = and_parts (ltb j i) (grounded n ns j) p.0 in
-    let r = and_parts (ltb k i) (grounded n ns k) p.1 in
-    (j, k, ltb-true j i q.0, ltb-true k i r.0, e, ih j q.1, ih k r.1)
-node_stands n ns ih i (Or j k) e g =
-    let p = and_parts (child (grounded n ns) i j) (child (grounded n ns) i k) g in
-    let q = and_parts (ltb j i) (grounded n ns j) p.0 in
-    let r = and_parts (ltb k i) (grounded n ns k) p.1 in
-    (j, k, ltb-true j i q.0, ltb-true k i r.0, e, ih j q.1, ih k r.1)
-
-pub grounded_stands : (n : ℕ) (ns : List Node) (i : ℕ) → grounded n ns i ≡ true → Stands ns i (tree n ns i)
-grounded_stands zero ns i e = absurd (false≢true e)
-grounded_stands (suc n) ns i e = node_stands n ns (grounded_stands n ns) i (get_or ns i Free) refl e
-
-pub rooted_standing : (ns : List Node) (i : ℕ) → i < length ns → grounded (suc i) ns i ≡ true → Standing ns i
-rooted_standing ns i h g = record { is = tree (suc i) ns i; stands = grounded_stands (suc i) ns i g; within = h }
+use Rattle.formula_book.specs.Trees.{child, node_grounded, grounded}
 
 -- two tests after a comparison agree if they do where it holds
 below : (j i : ℕ) (a b : Bool) → (j < i → a ≡ b) → ltb j i && a ≡ ltb j i && b

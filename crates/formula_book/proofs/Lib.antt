@@ -1,3 +1,4 @@
+pub mod Conditions
 pub mod Grounds
 pub mod Cells
 pub mod Listed

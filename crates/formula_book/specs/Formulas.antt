@@ -4,9 +4,11 @@ use Rattle.std.specs.List.{range_with_len}
 use Rattle.network.specs.Cells.{GoodCells}
 use Rattle.network.specs.Book.{Rule, BookMeaning}
 use Rattle.formulas.specs.declared.node.Node.{Node}
+use Rattle.formulas.specs.Tree.{Condition}
 use Rattle.formulas.specs.Truth.{truth}
 use Rattle.reader.specs.declared.formula.Formula.{Formula}
-use Rattle.formula_book.specs.Trees.{tree, grounded}
+use Rattle.judge.specs.Trees.{tree}
+use Rattle.formula_book.specs.Trees.{grounded}
 
 -- a formula that is missing
 abbrev pub no_formula : Formula
@@ -53,6 +55,10 @@ rule_of l ns f = record { cells = cells_of f; permits = permits_of l ns f }
 -- the stores as a book
 abbrev pub formula_book : Lists → List Node → List Formula → BookMeaning
 formula_book l ns fs = record { count = length fs; rule = λ r. rule_of l ns (slice_index_or fs r no_formula) }
+
+-- a rule permits the rows of listed places at whose numbers a condition is true
+abbrev pub MeansCondition : Lists → Condition → Rule → Type 0
+MeansCondition l c rule = (row : List ℕ) → rule.permits row ≡ (listed l rule.cells row && truth (assigned l unset rule.cells row) c)
 
 -- good cells, and a root from which only nodes of a formula are met
 pub record Fit (ns : List Node) (f : Formula) : Type 0 where

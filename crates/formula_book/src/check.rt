@@ -1,7 +1,10 @@
 //! Which stores make a formula book.
-ghost use Rattle.std.specs.Prelude.{◌≡◌, ℕ, suc, ◌<◌, true, [], length, Decides};
+ghost use Rattle.std.specs.Prelude.{◌≡◌, ℕ, suc, ◌<◌, true, [], length, Decides, slice_index_or};
+ghost use Rattle.formulas.specs.Tree.{Condition};
+ghost use Rattle.formulas.specs.Layout.{Stands};
 ghost use Rattle.formula_book.specs.Trees.{child, grounded};
-ghost use Rattle.formula_book.specs.Formulas.{WellFormed, Fit};
+ghost use Rattle.formula_book.specs.Formulas.{WellFormed, Fit, MeansCondition, formula_book, no_formula};
+ghost use Rattle.formula_book.specs.Support.{lists_of};
 
 use crate::book::FormulaBook;
 use formulas::node::Node;
@@ -22,6 +25,8 @@ impl<'a> FormulaBook<'a> {
         ensures nodes { result.nodes.now ≡ nodes.now }
         ensures lengths { result.lengths.now ≡ lengths.now }
         ensures numbers { result.numbers.now ≡ numbers.now }
+        ensures means { (r : ℕ) (c : Condition) → Stands nodes.now (slice_index_or result.formulas.now r no_formula).root c → MeansCondition (lists_of lengths.now numbers.now) c
+            ((formula_book (lists_of lengths.now numbers.now) nodes.now result.formulas.now).rule r) }
     {
         if is_well_formed(nodes, formulas) {
             return FormulaBook {

@@ -8,14 +8,11 @@ use reader::formula::{NODES, read};
 /// Tries one formula.
 fn attempt(rt: &HostRuntime, nodes: &mut [Node], cells: u8, formula: &[u8]) -> anyhow::Result<()> {
     let mut used = 0;
-    if nodes.len() > NODES || formula.len() > nodes.len() {
-        return Err(anyhow!("too long"));
-    }
     match read(formula, cells, nodes, &mut used) {
         Ok(_) => println!(rt; "read")?,
-        Err(fault) => {
-            let n = fault.flaw.number();
-            let offset = fault.offset;
+        Err(unread) => {
+            let n = unread.number();
+            let offset = unread.offset();
             println!(rt; "{n} {offset}")?
         }
     }

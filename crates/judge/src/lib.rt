@@ -1,10 +1,12 @@
 //! The truth of stored formulas at the cells' numbers. Uses `formulas` only.
 #![tactic(auto)]
 
-ghost use Rattle.std.specs.Prelude.{◌≡◌, ℕ, ℤ, pos, slice_index_or};
+ghost use Rattle.std.specs.Prelude.{◌≡◌, ℕ, ◌<◌, ℤ, pos, slice_index_or};
+ghost use Rattle.formulas.specs.declared.node.Node.TheVariants.{Free};
 ghost use Rattle.formulas.specs.Tree.{Condition};
 ghost use Rattle.formulas.specs.Truth.{truth, related, worth, shifted};
-ghost use Rattle.formulas.specs.Layout.{Stands, Standing};
+ghost use Rattle.formulas.specs.Layout.{Stands};
+ghost use Rattle.judge.specs.Trees.{tree};
 
 use formulas::node::{Node, Relation, Shift, Side};
 
@@ -53,19 +55,32 @@ fn is_related(by: Relation, a: i64, b: i64) -> bool
 }
 
 /// Whether the condition that a stored node stands for is true, at the number of each cell.
+/// A free node, and a child whose number is not smaller, count as never true; no formula that was read has one.
+#[tactic(auto, using(crate::proofs::Trees::stood))]
 pub fn holds(nodes: &[Node], at: u16, numbers: &[i32]) -> bool
-    requires { Standing nodes.now at }
-    ensures { (c : Condition) → Stands nodes.now at c → result ≡ truth numbers.now c }
+    ensures stands { (c : Condition) → Stands nodes.now at c → result ≡ truth numbers.now c }
+    ensures any { (n : ℕ) → at < n → result ≡ truth numbers.now (tree n nodes.now at) }
 {
-    match nodes[at as usize] {
-        Node::Free => unreachable(),
+    match node_at(nodes, at) {
+        Node::Free => false,
         Node::Compare(left, by, right) => is_related(
             by,
             worth_of(left, numbers),
             worth_of(right, numbers),
         ),
-        Node::Not(child) => !holds(nodes, child, numbers),
-        Node::And(first, rest) => holds(nodes, first, numbers) && holds(nodes, rest, numbers),
-        Node::Or(first, rest) => holds(nodes, first, numbers) || holds(nodes, rest, numbers),
+        Node::Not(child) => !(child < at && holds(nodes, child, numbers)),
+        Node::And(first, rest) => {
+            first < at && holds(nodes, first, numbers) && rest < at && holds(nodes, rest, numbers)
+        }
+        Node::Or(first, rest) => {
+            first < at && holds(nodes, first, numbers) || rest < at && holds(nodes, rest, numbers)
+        }
     }
+}
+
+/// A stored node, a free one where it is missing.
+fn node_at(nodes: &[Node], at: u16) -> Node
+    ensures { result ≡ slice_index_or nodes.now at Free }
+{
+    nodes.get(usize::from(at)).copied().unwrap_or(Node::Free)
 }

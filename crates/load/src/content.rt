@@ -14,6 +14,7 @@ use contents::rule::read_rows;
 use formulas::fault::FormulaFault;
 use formulas::node::Node;
 use reader::formula::{Formula, NODES, read};
+use reader::unread::Unread;
 use sheets::fault::RuleFault;
 use sheets::stores::{CELLS, Stores};
 
@@ -112,8 +113,12 @@ fn read_formula(
         (λ f. ReadFormula cells content.now nodes.old used.old nodes.new used.new f)
         (λ e. Inside cells content.now base e) }
 {
-    read(content, cells, nodes, used).map_err(|fault| FormulaFault {
-        offset: base + fault.offset,
-        ..fault
-    })
+    match read(content, cells, nodes, used) {
+        Ok(formula) => Ok(formula),
+        Err(Unread::Fault(fault)) => Err(FormulaFault {
+            offset: base + fault.offset,
+            ..fault
+        }),
+        Err(Unread::NoRoom) => unreachable!(),
+    }
 }

@@ -7,6 +7,7 @@ use crate::masks::Masks;
 use bits::{has, only};
 
 /// Whether a row with an allowed place at each position passes a test; it stops at the first.
+// That the test may be called on any row is asked by a clause, as by std's own functions that take a closure.
 pub fn some_row<F: Fn(&[u8]) -> bool>(masks: Masks<'_>, passes: F) -> bool
     requires callable { F.IsAlwaysCallable passes }
     ensures yes { result ≡ true → (row : List ℕ) × Tried masks.entry.each.now row × FnReturnsAt F.Fn passes row true }
@@ -38,13 +39,15 @@ fn goes_on<F: Fn(&[u8]) -> bool>(masks: Masks<'_>, passes: &F, places: [u8; 4], 
     false
 }
 
-/// The places allowed at each position: those that remain at its cell, and at one position the given place alone.
+/// The places allowed at each position: those that remain at its cell, and at the given position, if there is one, the given place alone.
 pub fn allowed(cells: [u8; 4], position: u8, place: u8, sets: &[u64]) -> [u64; 4]
-    requires { position < 4 }
     ensures { Allows cells position place sets.now result }
 {
     let mut masks = cells.map(|cell| remaining(sets, cell));
-    masks[position as usize] &= only(place);
+    // A test and no `get_mut`: a write through that needs a proof of its own.
+    if position < 4 {
+        masks[position as usize] &= only(place);
+    }
     masks
 }
 

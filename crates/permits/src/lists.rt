@@ -23,7 +23,7 @@ impl Lists {
     }
 
     /// One more list.
-    pub fn add(&mut self, list: &[i32]) -> Result<(), AllocError>
+    pub(crate) fn add(&mut self, list: &[i32]) -> Result<(), AllocError>
         requires { length list.now ≤ 64 }
         ensures { OnOk result (Adds list.now self.old.lengths.items self.old.numbers.items self.new.lengths.items self.new.numbers.items) }
     {

@@ -5,12 +5,15 @@ use Rattle.formulas.specs.declared.node.Node.{Node}
 use Rattle.formulas.specs.declared.fault.FormulaFault.{FormulaFault}
 use Rattle.formulas.specs.Tree.{cells_of}
 use Rattle.formulas.specs.Layout.{layout, Stands, Standing}
+use Rattle.formulas.specs.Faults.{First}
+use Rattle.formulas.proofs.Firsts.{first_unique}
 use Rattle.formulas.proofs.Exact.{accepted_not_refused, accepted_unique}
 use Rattle.formulas.proofs.Layouts.{size_text}
 use Rattle.formulas.proofs.Standings.{laid_out}
 use Rattle.reader.specs.declared.formula.Formula.{Formula}
-use Rattle.reader.specs.Formula.{ReadFormula}
-use Rattle.reader.proofs.Wholes.{decided_refused}
+use Rattle.reader.specs.declared.unread.Unread.{Unread}
+use Rattle.reader.specs.declared.unread.Unread.TheVariants.{Fault}
+use Rattle.reader.specs.Formula.{ReadFormula, Fits, NotRead, no_room, fault}
 use Rattle.preview.specs.Preview.{Tells, unfit, long, faulty, read, Exactly, fault_line, permits}
 
 module _ {cells used : ℕ} {s : List ℕ} {before after : List Node} {f : Formula} (r : ReadFormula cells s before 0 after used f) where
@@ -23,8 +26,11 @@ module _ {cells used : ℕ} {s : List ℕ} {before after : List Node} {f : Formu
   pub cells_there : (w : ℕ) → w ≡ f.width → take w f.cells ≡ cells_of r.is
   cells_there w e = ap (take w) r.named ∙ take_at (cells_of r.is) (replicate (4 - length (cells_of r.is)) 0) w (sym (e ∙ r.width))
 
-same_fault : (a b : FormulaFault) → ◌≡◌ {A = Result Formula FormulaFault} (Err a) (Err b) → fault_line a.flaw a.offset ≡ fault_line b.flaw b.offset
-same_fault a b e = let f : a ≡ b = cc in ap (λ (x : FormulaFault). fault_line x.flaw x.offset) f
+-- where the store has room for the text, it is a fault for which a formula is not read
+pub fault_there : {cells n used : ℕ} {s : List ℕ} {before after : List Node} {e : Unread} → Fits s before n → NotRead cells s before n after used e
+    → (f : FormulaFault) × (e ≡ Fault f) × First cells s f.flaw f.offset
+fault_there fits (no_room short untouched same) = absurd (short fits)
+fault_there fits (fault {e = f} there first same cleared) = (f, refl, first)
 
 pub exactly : {lengths : List ℕ} {numbers : List ℤ} {s t : List ℕ} → Tells lengths numbers s t → Exactly lengths numbers s t
 exactly (unfit none) = record { unfit = λ _. refl; long = λ f _. absurd (none f); faulty = λ f _ _ _ _. absurd (none f); read = λ f _ _ _. absurd (none f) }
@@ -32,7 +38,7 @@ exactly (long fit l) = record { unfit = λ none. absurd (none fit); long = λ _ 
 exactly {lengths} {numbers} {s} (faulty fit short f k first) = record {
   unfit = λ none. absurd (none fit);
   long = λ _ h. absurd (omega arith);
-  faulty = λ _ _ g j other. same_fault (record { flaw = f; offset = k }) (record { flaw = g; offset = j }) ((decided_refused {e = record { flaw = f; offset = k }} (omega (arith, fit.few)) first).refuses g j other);
+  faulty = λ _ _ g j other. let u = first_unique f g k j first other in λ i. fault_line (u.0 i) (u.1 i);
   read = λ _ _ c a. absurd (accepted_not_refused (length lengths) s c f k (omega (arith, fit.few)) a first);
 }
 exactly {lengths} {numbers} {s} (read fit short c accepted) = record {

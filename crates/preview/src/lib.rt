@@ -50,7 +50,7 @@ fn push_answer(
 {
     let mut used = 0;
     match read(formula, lists.lengths.len() as u8, nodes, &mut used) {
-        Err(fault) => push_fault(out, fault.flaw.number(), fault.offset),
+        Err(unread) => push_fault(out, unread.number(), unread.offset()),
         Ok(stored) => {
             let width = usize::from(stored.width);
             let trial = Trial {

@@ -25,7 +25,8 @@ use Rattle.reader.specs.Stores.{Room}
 use Rattle.reader.specs.Read.{outside, ReadOne, FirstOf}
 use Rattle.reader.proofs.Refusals.{told}
 use Rattle.reader.proofs.Places.{ahead_in}
-use Rattle.reader.specs.Formula.{ReadFormula, Decided}
+use Rattle.reader.specs.declared.unread.Unread.TheVariants.{NoRoom, Fault}
+use Rattle.reader.specs.Formula.{ReadFormula, Fits, NotRead, fault, Decided}
 use Rattle.reader.proofs.Cells.{mentioned_layout}
 
 -- the nodes between two places of the store
@@ -99,12 +100,24 @@ module _ {start : Nested} {end : Cursor} {old new : Store} (many : start.at.text
           named = held.cells_are;
         }
 
--- a read or refused formula is decided
-pub decided_read : {cells n used : ℕ} {s : List ℕ} {before after : List Node} {f : Formula} → cells ≤ 1000000 → ReadFormula cells s before n after used f → Decided cells s (Ok f)
-decided_read {cells} {s = s} many r = record { accepts = λ c a. refl; refuses = λ f k g. absurd (accepted_not_refused cells s r.is f k many r.accepted g) }
-
-pub decided_refused : {cells : ℕ} {s : List ℕ} {e : FormulaFault} → cells ≤ 1000000 → FirstOf cells s e → Decided cells s (Err e)
-decided_refused {cells} {s} {e} many g = record {
-  accepts = λ c a. absurd (accepted_not_refused cells s c e.flaw e.offset many a g);
-  refuses = λ f k h. let u = first_unique e.flaw f e.offset k g h in λ i. Err (record { flaw = u.0 i; offset = u.1 i });
+-- a formula that is read or not is decided
+pub decided_read : {cells n used : ℕ} {s : List ℕ} {before after : List Node} {f : Formula} → cells ≤ 1000000 → Fits s before n → ReadFormula cells s before n after used f → Decided cells s before n (Ok f)
+decided_read {cells} {s = s} many fits r = record {
+  accepts = λ c h a. refl;
+  refuses = λ f k h g. absurd (accepted_not_refused cells s r.is f k many r.accepted g);
+  no_room = λ short. absurd (short fits);
 }
+
+pub decided_fault : {cells n : ℕ} {s : List ℕ} {before : List Node} {e : FormulaFault} → cells ≤ 1000000 → Fits s before n → FirstOf cells s e → Decided cells s before n (Err (Fault e))
+decided_fault {cells} {s = s} {e = e} many fits g = record {
+  accepts = λ c h a. absurd (accepted_not_refused cells s c e.flaw e.offset many a g);
+  refuses = λ f k h first. let u = first_unique e.flaw f e.offset k g first in λ i. Err (Fault (record { flaw = u.0 i; offset = u.1 i }));
+  no_room = λ short. absurd (short fits);
+}
+
+pub decided_no_room : {cells n : ℕ} {s : List ℕ} {before : List Node} → (Fits s before n → ⊥) → Decided cells s before n (Err NoRoom)
+decided_no_room short = record { accepts = λ c h a. absurd (short h); refuses = λ f k h g. absurd (short h); no_room = λ h. refl }
+
+-- the fault of a formula that is not read is its first
+pub fault_first : {cells n used : ℕ} {s : List ℕ} {before after : List Node} {e : FormulaFault} → NotRead cells s before n after used (Fault e) → FirstOf cells s e
+fault_first (fault there first same cleared) = first

@@ -58,7 +58,7 @@ impl<'a> Store<'a> {
     }
 
     /// The number of the last node.
-    pub fn last(&self) -> u16
+    pub(crate) fn last(&self) -> u16
         requires some { 1 ≤ self.now.used }
         ensures { result ≡ self.now.used - 1 }
     {
@@ -82,7 +82,7 @@ impl<'a> Store<'a> {
 
     /// A condition.
     #[cycle(condition_conditions)]
-    pub fn condition<'t>(&mut self, place: Nested<'t>) -> Result<Cursor<'t>, FormulaFault>
+    pub(crate) fn condition<'t>(&mut self, place: Nested<'t>) -> Result<Cursor<'t>, FormulaFault>
         requires awaits { (o : List Bool) × Awaits o (behind place.at) }
         requires room { Room self.old place.at }
         ensures read { MatchResult result (λ end. ReadOne place.entry self.old self.new end) (λ e. FirstIn place.entry.at e) }

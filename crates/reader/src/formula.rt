@@ -1,17 +1,18 @@
 //! Whole formulas.
-ghost use Rattle.std.specs.Prelude.{◌≡◌, ℕ, ◌+◌, ◌-◌, ◌≤◌, ◌++◌, length, take, replicate, MatchResult};
+ghost use Rattle.std.specs.Prelude.{◌≡◌, ℕ, ◌+◌, ◌-◌, ◌≤◌, ◌++◌, length, take, replicate, Decides, MatchResult};
 ghost use Rattle.formulas.specs.declared.node.Node.TheVariants.{Free};
 ghost use Rattle.reader.specs.Places.{FirstIn};
 ghost use Rattle.reader.specs.Stores.{Kept, Room};
 ghost use Rattle.reader.specs.Mentions.{Found, named_from};
 ghost use Rattle.reader.specs.Read.{FirstOf};
-ghost use Rattle.reader.specs.Formula.{ReadFormula, Decided};
+ghost use Rattle.reader.specs.Formula.{ReadFormula, Fits, NotRead, Decided};
 
 use crate::cursor::{Cursor, Text};
 use crate::mentions::cells_of;
 use crate::named::Named;
 use crate::nested::Nested;
 use crate::store::Store;
+use crate::unread::Unread;
 use formulas::fault::{Flaw, FormulaFault};
 use formulas::node::Node;
 
@@ -27,21 +28,48 @@ pub struct Formula {
     pub cells: [u8; 4],
 }
 
-/// Reads a formula on the first `cells` cells, and stores its nodes from `used` on. Refused, it leaves the nodes below `used` as they were and the others free.
+/// Reads a formula on the first `cells` cells, and stores its nodes from `used` on. Refused, it leaves the nodes below `used` as they were and the
+/// others free; where the store cannot take it, that is untouched.
 // The host lends the nodes, so the caller keeps them with a count of those taken.
 pub fn read(
     bytes: &[u8],
     cells: u8,
     nodes: &mut [Node],
     used: &mut usize,
-) -> Result<Formula, FormulaFault>
-    requires few { length nodes.old ≤ 32768 }
-    requires room { used.old + length bytes.now ≤ length nodes.old }
+) -> Result<Formula, Unread>
     ensures read { MatchResult result
+        (λ f. ReadFormula cells bytes.now nodes.old used.old nodes.new used.new f)
+        (λ e. NotRead cells bytes.now nodes.old used.old nodes.new used.new e) }
+    ensures exact { Decided cells bytes.now nodes.old used.old result }
+{
+    if !can_take(nodes, *used, bytes) {
+        return Err(Unread::NoRoom);
+    }
+    match read_into(bytes, cells, nodes, used) {
+        Ok(formula) => Ok(formula),
+        Err(fault) => Err(Unread::Fault(fault)),
+    }
+}
+
+/// Whether a store can take what is read of a text.
+fn can_take(nodes: &[Node], used: usize, bytes: &[u8]) -> bool
+    ensures { Decides result (Fits bytes.now nodes.now used) }
+{
+    nodes.len() <= NODES && used <= nodes.len() && bytes.len() <= nodes.len() - used
+}
+
+/// Reads a formula into a store that can take it.
+fn read_into(
+    bytes: &[u8],
+    cells: u8,
+    nodes: &mut [Node],
+    used: &mut usize,
+) -> Result<Formula, FormulaFault>
+    requires { Fits bytes.now nodes.old used.old }
+    ensures { MatchResult result
         (λ f. ReadFormula cells bytes.now nodes.old used.old nodes.new used.new f)
         (λ e. FirstOf cells bytes.now e × (used.new ≡ used.old)
         × (nodes.new ≡ take used.old nodes.old ++ replicate (length nodes.old - used.old) Free)) }
-    ensures exact { Decided cells bytes.now result }
 {
     let start = Cursor {
         text: Text { bytes, cells },

@@ -11,3 +11,4 @@ mod named;
 mod nested;
 mod sides;
 mod store;
+pub mod unread;

@@ -90,7 +90,7 @@ impl<'a> Cursor<'a> {
     }
 
     /// One side of a comparison.
-    pub fn side(self) -> Result<(Side, Cursor<'a>), FormulaFault>
+    pub(crate) fn side(self) -> Result<(Side, Cursor<'a>), FormulaFault>
         requires awaits { AwaitsSide self.text.bytes.now self.at }
         requires clear { ClearTo self }
         ensures { MatchResult result
@@ -109,7 +109,7 @@ impl<'a> Cursor<'a> {
     }
 
     /// The relation of a comparison.
-    pub fn relation(self) -> Result<(Relation, Cursor<'a>), FormulaFault>
+    pub(crate) fn relation(self) -> Result<(Relation, Cursor<'a>), FormulaFault>
         ensures { MatchResult result
             (λ v. Reads self.entry (relation_text v.0) v.1 × EndsRelation v.0 (ahead v.1))
             (λ e. (e ≡ outside self.entry.at) × (60 ≤ ahead self.entry → ahead self.entry ≤ 62 → ⊥)) }

@@ -19,7 +19,7 @@ fn is_allowed(row: &[u8], masks: &[u64]) -> bool
 }
 
 /// Whether some stored row has allowed places only; stops at the first.
-pub fn some_stored(rows: &[u8], masks: Masks<'_>) -> bool
+pub(crate) fn some_stored(rows: &[u8], masks: Masks<'_>) -> bool
     requires { 0 < length masks.each.now }
     ensures { Decides result ((j : ℕ) × (j < length rows.now / length masks.entry.each.now) × Tried masks.entry.each.now (row_in (length masks.entry.each.now) rows.now j)) }
 {
@@ -48,7 +48,7 @@ fn allowed_rows(masks: Masks<'_>) -> u32
 
 /// Whether some row with allowed places only is not stored.
 /// Where more rows are allowed than stored, one is not, and none is tried. So no more rows are tried than are stored.
-pub fn some_unstored(rows: &[u8], masks: Masks<'_>) -> bool
+pub(crate) fn some_unstored(rows: &[u8], masks: Masks<'_>) -> bool
     requires { 0 < length masks.each.now }
     ensures { Decides result (Unstored (length rows.now / length masks.entry.each.now) rows.now masks.entry.each.now) }
 {

@@ -1,15 +1,17 @@
 -- The rules by formulas of a sheet, as they lie in the stores. Assumes nothing.
-use Rattle.std.proofs.Common.{◌≡◌, ℕ, zero, suc, ◌+◌, ◌-◌, ◌<◌, ◌≤◌, Bool, true, false, not, ◌&&◌, ◌||◌, ltb, List, [], ◌∷◌, ◌++◌, map, length, get_or, replicate, ℤ, pos, sym, refl, ap, ◌∙◌, subst, append_assoc, arith, length-append}
+use Rattle.std.proofs.Common.{◌≡◌, ℕ, zero, suc, ◌+◌, ◌-◌, ◌<◌, ◌≤◌, Bool, true, false, ◌&&◌, ltb, List, [], ◌∷◌, ◌++◌, map, length, get_or, replicate, ℤ, pos, sym, refl, ap, ◌∙◌, subst, append_assoc, arith, length-append}
 use Rattle.std.proofs.lemmas.Bool.{and_from, lt-ltb}
 use Rattle.formulas.specs.declared.node.Node.{Node}
 use Rattle.formulas.specs.declared.node.Node.TheVariants.{And, Or}
 use Rattle.formulas.specs.Tree.{Condition, compares, negates, all, any, Conditions, one, more, cells_of}
-use Rattle.formulas.specs.Truth.{truth, all_true, any_true}
+use Rattle.formulas.specs.Truth.{truth}
 use Rattle.formulas.specs.Layout.{size, layout, Stands, StandsAll}
 use Rattle.formulas.proofs.Layouts.{size_layout, size_some}
 use Rattle.formulas.proofs.Standings.{laid_out}
 use Rattle.reader.specs.declared.formula.Formula.{Formula}
-use Rattle.formula_book.specs.Trees.{node_tree, tree, child, node_grounded, grounded}
+use Rattle.judge.specs.Trees.{tree}
+use Rattle.judge.proofs.Trees.{below, stands_true}
+use Rattle.formula_book.specs.Trees.{child, node_grounded, grounded}
 use Rattle.formula_book.specs.Formulas.{no_formula, Lists, assigned, unset, listed, rule_of, Fit, WellFormed}
 use Rattle.formula_book.specs.Support.{lists_of}
 use Rattle.sheets.specs.Sheet.{GoodFormula, Each}
@@ -20,12 +22,7 @@ use Rattle.sheet_books.proofs.Parts.{each_at, cells_there, cells_good}
 use Rattle.sheet_books.proofs.StoredCells.{cells_known, cells_below, cells_apart}
 use Rattle.sheet_books.proofs.StoredNumbers.{Short, spread, listed_same, numbers_same}
 
--- ---- a node that stands for a condition is grounded, and its tree is as true
--- a node below m, looked at m deep
-below : (P : ℕ → Type 0) (j : ℕ) → ((k : ℕ) → j ≤ k → P (suc k)) → (m : ℕ) → j < m → P m
-below P j f zero h = absurd (omega arith)
-below P j f (suc m) h = f m (omega arith)
-
+-- ---- a node that stands for a condition is grounded
 module _ (ns : List Node) where
   child_there : (n i j : ℕ) → j < i → grounded n ns j ≡ true → child (grounded n ns) i j ≡ true
   child_there n i j l g = and_from (ltb j i) (grounded n ns j) (lt-ltb j i l) g
@@ -47,30 +44,6 @@ module _ (ns : List Node) where
         ∙ and_from (child (grounded n ns) i s.0) (child (grounded n ns) i s.1)
         (child_there n i s.0 s.2 (below (λ k. grounded k ns s.0 ≡ true) s.0 (λ k h. stands_grounded c k s.0 h s.5) n (omega (arith, s.2))))
         (child_there n i s.1 s.3 (below (λ k. grounded k ns s.1 ≡ true) s.1 (λ k h. list_grounded joins is cs k s.1 h s.6) n (omega (arith, s.3))))
-
-  module _ (f : List ℤ) where
-    mutual
-      stands_true : (c : Condition) (n i : ℕ) → i ≤ n → Stands ns i c → truth f (tree (suc n) ns i) ≡ truth f c
-      stands_true (compares a o b) n i l s = ap (λ x. truth f (node_tree (tree n ns) x)) s
-      stands_true (negates c) n i l s =
-          ap (λ x. truth f (node_tree (tree n ns) x)) s.2
-          ∙ ap not (below (λ k. truth f (tree k ns s.0) ≡ truth f c) s.0 (λ k h. stands_true c k s.0 h s.3) n (omega (arith, s.1)))
-      stands_true (all cs) n i l s = all_stand_true cs n i l s
-      stands_true (any cs) n i l s = any_stand_true cs n i l s
-
-      all_stand_true : (cs : Conditions) (n i : ℕ) → i ≤ n → StandsAll And ns i cs → truth f (tree (suc n) ns i) ≡ all_true f cs
-      all_stand_true (one c) n i l s = stands_true c n i l s
-      all_stand_true (more c cs) n i l s =
-          ap (λ x. truth f (node_tree (tree n ns) x)) s.4
-          ∙ ap (λ b. b && truth f (tree n ns s.1)) (below (λ k. truth f (tree k ns s.0) ≡ truth f c) s.0 (λ k h. stands_true c k s.0 h s.5) n (omega (arith, s.2)))
-          ∙ ap (λ b. truth f c && b) (below (λ k. truth f (tree k ns s.1) ≡ all_true f cs) s.1 (λ k h. all_stand_true cs k s.1 h s.6) n (omega (arith, s.3)))
-
-      any_stand_true : (cs : Conditions) (n i : ℕ) → i ≤ n → StandsAll Or ns i cs → truth f (tree (suc n) ns i) ≡ any_true f cs
-      any_stand_true (one c) n i l s = stands_true c n i l s
-      any_stand_true (more c cs) n i l s =
-          ap (λ x. truth f (node_tree (tree n ns) x)) s.4
-          ∙ ap (λ b. b || truth f (tree n ns s.1)) (below (λ k. truth f (tree k ns s.0) ≡ truth f c) s.0 (λ k h. stands_true c k s.0 h s.5) n (omega (arith, s.2)))
-          ∙ ap (λ b. truth f c || b) (below (λ k. truth f (tree k ns s.1) ≡ any_true f cs) s.1 (λ k h. any_stand_true cs k s.1 h s.6) n (omega (arith, s.3)))
 
 -- ---- the formulas in the stores
 record FormulaThere (formulas : List Formula) (nodes : List Node) (c : Condition) (r : ℕ) : Type 0 where

@@ -2,16 +2,12 @@ use Rattle.std.proofs.Common.{◌≡◌, suc, true, false, ◌&&◌, sym, ap, �
 use Rattle.std.proofs.lemmas.Bool.{cases_Bool}
 use Rattle.std.proofs.lemmas.Bool.Decides.{not_from_Decides}
 use Rattle.formulas.specs.Truth.{truth}
-use Rattle.formula_book.specs.Trees.{tree}
+use Rattle.judge.specs.Trees.{tree}
 use Rattle.formula_book.specs.Formulas.{assigned, cells_of, listed, unset}
 use Rattle.formula_book.specs.Support.{lists_of}
 use Rattle.formula_book.proofs.Cells.{cells_first}
-use Rattle.formula_book.proofs.Grounds.{rooted_standing, grounded_stands}
 use Rattle.formula_book.proofs.Listed.{Listed, listed_decides}
 use Rattle.formula_book.proofs.book.FormulaBook.permits.Goals as goal
-
-pub holds-requires : goal.holds-requires
-holds-requires c = rooted_standing c.args.self.now.nodes.now c.args.formula.now.root c.requires.inside c.requires.rooted
 
 pub returns-then-are_listed : goal.returns-then-are_listed
 returns-then-are_listed c =
@@ -22,7 +18,7 @@ returns-then-are_listed c =
     let condition = tree (suc f.root) b.nodes.now f.root in
     let first = cells_first f (omega (arith, c.requires.good.few)) in
     let yes : listed lists (cells_of f) row ≡ true = (listed_decides lists (cells_of f) row).1 (subst (λ cs. Listed lists cs row) first (c.are_listed.ensures.0 c.if-are_listed.true)) in
-    c.holds.ensures condition (grounded_stands (suc f.root) b.nodes.now f.root c.requires.rooted)
+    c.holds.ensures.any (suc f.root) (omega arith)
     ∙ ap (λ ns. truth ns condition) (c.assigned.ensures ∙ ap (λ cs. assigned lists unset cs row) first)
     ∙ sym (ap (λ b. b && truth (assigned lists unset (cells_of f) row) condition) yes)
 
