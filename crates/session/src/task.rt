@@ -37,6 +37,9 @@ impl<B: RuleBook, C: Chooser> Runner<C> for Task<'_, B> {
         work: &mut [u64],
         sets: &mut [u64],
     ) -> Line {
-        run(self.book, chooser, weights, self.start, listed, work, sets)
+        let Some(line) = run(self.book, chooser, weights, self.start, listed, work, sets) else {
+            unreachable!()
+        };
+        line
     }
 }

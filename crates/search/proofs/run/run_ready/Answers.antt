@@ -9,7 +9,7 @@ use Rattle.runs.proofs.OneRun.{only_run}
 use Rattle.settling.specs.Kept.{state_of}
 use Rattle.search.specs.Room.{Able}
 use Rattle.search.proofs.Rooms.{first_room}
-use Rattle.search.proofs.run.run.Goals as goal
+use Rattle.search.proofs.run.run_ready.Goals as goal
 
 pub search-found-requires : goal.search-found-requires
 search-found-requires g c =
@@ -17,7 +17,7 @@ search-found-requires g c =
     (record {
       few = c.requires.ready.few;
       full = c.requires.ready.full;
-      room = first_room c.args.start.now (length c.args.work.now) c.requires.ready.few c.requires.room;
+      room = first_room c.args.start.now (length c.args.work.now) c.requires.ready.few c.requires.room.free;
     })
 
 -- the sets and the weights that were lent are those of the progress
