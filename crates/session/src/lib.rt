@@ -3,5 +3,6 @@
 #![tactic(auto)]
 
 pub mod session;
+mod start;
 mod table;
 mod task;

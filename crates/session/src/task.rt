@@ -8,6 +8,7 @@ ghost use Rattle.calls.proofs.RunLaws.{ran_laws};
 use choosers::chooser::Chooser;
 use clash::runner::Runner;
 use network::book::RuleBook;
+use readiness::ready::is_ready;
 use runs::line::Line;
 use search::run::run;
 
@@ -28,6 +29,14 @@ impl<B: RuleBook, C: Chooser> Runner<C> for Task<'_, B> {
     ghost runs = { λ t. Ran C.Chooser.meaning (B.RuleBook.meaning t.book.now) t.start.now };
 
     ghost laws = { λ t. ran_laws C.Chooser.meaning C.Chooser.laws (B.RuleBook.meaning t.book.now) (B.RuleBook.laws t.book.now) t.start.now };
+
+    fn cell_count(&self) -> usize {
+        self.start.len()
+    }
+
+    fn is_ready(&self, listed: u64) -> bool {
+        is_ready(self.book, self.start, listed)
+    }
 
     fn run(
         &self,

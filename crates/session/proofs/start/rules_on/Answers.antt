@@ -1,9 +1,9 @@
 use Rattle.std.proofs.Common.{◌≡◌, ℕ, ◌^◌, ◌<◌, false, length, get_or, take, sym, ap, ◌∙◌, arith}
 use lib.Bits.{bit_or}
 use Rattle.std.proofs.lemmas.List.{get_or-take, length-take-le}
-use Rattle.opening.proofs.Starting.{where_on, where_off, where_none}
-use Rattle.opening.proofs.start.rules_on.Goals as goal
-use Rattle.opening.proofs.start.rules_on.Goals.{then-on, else-on}
+use Rattle.session.proofs.Starting.{where_on, where_off, where_none}
+use Rattle.session.proofs.start.rules_on.Goals as goal
+use Rattle.session.proofs.start.rules_on.Goals.{then-on, else-on}
 
 pub loop-rule-init : goal.loop-rule-init
 loop-rule-init c = where_none (λ r. get_or c.args.switches.now r false)

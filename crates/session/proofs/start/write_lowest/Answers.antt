@@ -1,6 +1,6 @@
 use Rattle.std.proofs.Common.{◌<◌, length, arith}
-use Rattle.opening.proofs.Starting.{lowest_more}
-use Rattle.opening.proofs.start.write_lowest.Goals as goal
+use Rattle.session.proofs.Starting.{lowest_more}
+use Rattle.session.proofs.start.write_lowest.Goals as goal
 
 pub loop-cell-preserved : goal.loop-cell-preserved
 loop-cell-preserved c =

@@ -8,7 +8,7 @@ use Rattle.std.proofs.lemmas.Bool.{cases_eq}
 use Rattle.bits.specs.Sets.{set_of}
 use Rattle.cores.proofs.SetFacts.{set_push}
 use Rattle.calls.specs.History.{set_where}
-use Rattle.opening.specs.Pins.{LowestByte}
+use Rattle.session.specs.Pins.{LowestByte}
 
 counting_push : (a n : ℕ) → range_with_len a (suc n) ≡ range_with_len a n ++ (a + n) ∷ []
 counting_push a zero = ap (λ (x : ℕ). x ∷ []) (let e : a ≡ a + 0 = omega arith in e)

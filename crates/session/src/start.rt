@@ -2,7 +2,7 @@
 ghost use Rattle.std.specs.Prelude.{◌≡◌, ℕ, ◌-◌, ◌^◌, ◌<◌, ◌≤◌, false, length, drop, None, slice_index, slice_index_or};
 ghost use Rattle.calls.specs.History.{set_where};
 ghost use Rattle.calls.specs.Runs.{start_of, starts};
-ghost use Rattle.opening.specs.Pins.{held, LowestByte};
+ghost use Rattle.session.specs.Pins.{held, LowestByte};
 
 use bits::{first, lowest, only, with};
 
@@ -18,7 +18,7 @@ fn start_of(length: u8, pin: Option<u8>) -> u64
 }
 
 /// Writes what each cell starts with.
-pub fn set_starts(lengths: &[u8], pins: &[Option<u8>; 64], start: &mut [u64])
+pub(crate) fn set_starts(lengths: &[u8], pins: &[Option<u8>; 64], start: &mut [u64])
     requires cells { length start.old ≡ length lengths.now }
     requires few { length lengths.now ≤ 64 }
     requires short { (c : ℕ) → c < length lengths.now → slice_index lengths.now c ≤ 64 }
@@ -31,7 +31,7 @@ pub fn set_starts(lengths: &[u8], pins: &[Option<u8>; 64], start: &mut [u64])
 }
 
 /// The first rules that are on.
-pub fn rules_on(switches: &[bool; 64], count: u16) -> u64
+pub(crate) fn rules_on(switches: &[bool; 64], count: u16) -> u64
     requires { count ≤ 64 }
     ensures { result ≡ set_where (λ r. slice_index_or switches.now r false) count }
 {
@@ -53,7 +53,7 @@ fn lowest_byte(places: u64) -> u8
 }
 
 /// Writes the lowest place of each set, one byte a cell; 64 where a set is empty.
-pub fn write_lowest(sets: &[u64], filling: &mut [u8])
+pub(crate) fn write_lowest(sets: &[u64], filling: &mut [u8])
     requires { length sets.now ≤ length filling.old }
     ensures places { (c : ℕ) → c < length sets.now → LowestByte (slice_index sets.now c) (slice_index filling.new c) }
     ensures later { drop (length sets.now) filling.new ≡ drop (length sets.now) filling.old }

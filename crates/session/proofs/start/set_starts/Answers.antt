@@ -1,8 +1,8 @@
 use Rattle.std.proofs.Common.{length, get_or, None, ◌∙◌, arith}
 use Rattle.std.proofs.lemmas.List.FromFn.{fill_by_all}
 use Rattle.calls.specs.Runs.{start_of}
-use Rattle.opening.specs.Pins.{held}
-use Rattle.opening.proofs.start.set_starts.Goals as goal
+use Rattle.session.specs.Pins.{held}
+use Rattle.session.proofs.start.set_starts.Goals as goal
 
 pub returns : goal.returns
 returns c =
