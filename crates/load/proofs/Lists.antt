@@ -8,7 +8,7 @@ use Rattle.sheets.specs.declared.fault.RuleFault.TheVariants.{List as ListFault}
 use Rattle.sheets.specs.Sheet.{four_bytes, list_bytes, GoodList}
 use Rattle.sheets.proofs.Fields.{byte}
 use Rattle.sheets.proofs.Contents.{small_fits}
-use Rattle.contents.specs.Read.{ReadList, NoList}
+use Rattle.load.specs.Read.{ReadList, NoList}
 
 -- four bytes and the number in them
 pub four_of : (a b c d : ℕ) (z : ℤ) → a < 256 → b < 256 → c < 256 → d < 256 → z ≡ to_z w32 (a * 16777216 + b * 65536 + c * 256 + d) → four_bytes z ≡ a ∷ b ∷ c ∷ d ∷ []

@@ -4,8 +4,8 @@ ghost use Rattle.rows.specs.declared.rule.Kind.{Kind};
 ghost use Rattle.network.specs.Cells.{Listed};
 ghost use Rattle.sheets.specs.Sheet.{kind_byte};
 ghost use Rattle.sheets.specs.Stored.{filled};
-ghost use Rattle.contents.specs.Read.{ReadRows, NoRows};
-ghost use Rattle.contents.specs.Parts.{Headed, Known};
+ghost use Rattle.load.specs.Read.{ReadRows, NoRows};
+ghost use Rattle.load.specs.Parts.{Headed, Known};
 
 use network::cells::{are_good, are_listed};
 use rows::rule::{Kind, RowsRule};
@@ -13,7 +13,7 @@ use sheets::fault::RuleFault;
 
 /// Reads the content of a rows field, whose tag is the byte `tag` of the file, as a rule on cells with lists of these lengths.
 /// The places of its rows go to the front of `places`, which is the store of places from `start` on; those past them stay as they were.
-pub fn read_rows(
+pub(crate) fn read_rows(
     content: &[u8],
     tag: usize,
     lengths: &[u8],

@@ -1,7 +1,7 @@
 use Rattle.std.proofs.Common.{rules, length}
 use Rattle.network.specs.Cells.{Listed}
 use Rattle.rows.proofs.Chunks.{all_chunks}
-use Rattle.contents.proofs.rule.are_rows.Goals as goal
+use Rattle.load.proofs.rule.are_rows.Goals as goal
 
 pub returns : goal.returns
 returns c =

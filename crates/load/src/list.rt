@@ -1,13 +1,13 @@
 //! The list of a cell.
 ghost use Rattle.std.specs.Prelude.{◌≡◌, ℕ, ◌+◌, ◌<◌, ◌≤◌, length, take, drop, pos, Decides, MatchResult, ◌≢◌, slice_index_or, unsigned_abs};
 ghost use Rattle.sheets.specs.Sheet.{four_bytes};
-ghost use Rattle.contents.specs.Read.{ReadList, NoList};
+ghost use Rattle.load.specs.Read.{ReadList, NoList};
 
 use sheets::fault::RuleFault;
 
 /// Reads the content of a cell field, whose tag is the byte `tag` of the file, as 1 to 64 different numbers of at most a million.
 /// `numbers` are the places of this cell in the store of numbers. How many they are; those past them stay as they were.
-pub fn read_list(content: &[u8], tag: usize, numbers: &mut [i32]) -> Result<u8, RuleFault>
+pub(crate) fn read_list(content: &[u8], tag: usize, numbers: &mut [i32]) -> Result<u8, RuleFault>
     requires { length numbers.old ≡ 64 }
     ensures { MatchResult result (ReadList content.now numbers.old numbers.new) (NoList content.now tag) }
 {

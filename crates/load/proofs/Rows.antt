@@ -10,9 +10,9 @@ use Rattle.sheets.specs.declared.fault.RuleFault.TheVariants.{Rows as RowsFault}
 use Rattle.sheets.specs.Sheet.{RowsField, kind_byte, rows_bytes, GoodRow, GoodRows}
 use Rattle.sheets.specs.Stored.{places_of, filled}
 use Rattle.sheets.proofs.Fields.{byte, same_front}
-use Rattle.contents.specs.Read.{ReadRows, NoRows}
+use Rattle.load.specs.Read.{ReadRows, NoRows}
 use Rattle.network.specs.Cells.{Listed}
-use Rattle.contents.specs.Parts.{Headed}
+use Rattle.load.specs.Parts.{Headed}
 
 -- row i of some bytes in rows of width w
 abbrev pub row_at : ℕ → List ℕ → ℕ → List ℕ

@@ -1,8 +1,8 @@
 use Rattle.std.proofs.Common.{◌≡◌, ◌/◌, ◌<◌, ◌≤◌, length, subst, arith, w32, SFits, to_z, of_z, rules}
 use Rattle.std.proofs.lemmas.Bool.Decides.{not_from_Decides}
-use Rattle.contents.proofs.Lists.{SoFar, by_bits, read_at, one_more, all_read, not_long, not_small, not_new}
-use Rattle.contents.proofs.list.read_list.Goals as goal
-use Rattle.contents.proofs.list.read_list.Goals.{then-not-is_empty-via-then-not-is_empty, then-not-is_empty-via-else-not-is_empty+then-is_empty, then-not-is_empty-via-else-not-is_empty+else-is_empty+then-items-gt64, then-not-is_small-via-then-not-is_small, then-not-is_small-via-else-not-is_small+then-not-is_new}
+use Rattle.load.proofs.Lists.{SoFar, by_bits, read_at, one_more, all_read, not_long, not_small, not_new}
+use Rattle.load.proofs.list.read_list.Goals as goal
+use Rattle.load.proofs.list.read_list.Goals.{then-not-is_empty-via-then-not-is_empty, then-not-is_empty-via-else-not-is_empty+then-is_empty, then-not-is_empty-via-else-not-is_empty+else-is_empty+then-items-gt64, then-not-is_small-via-then-not-is_small, then-not-is_small-via-else-not-is_small+then-not-is_new}
 
 pub returns-then-not-is_empty : goal.returns-then-not-is_empty
 returns-then-not-is_empty c =

@@ -1,8 +1,8 @@
 use Rattle.std.proofs.Common.{◌≡◌, ℕ, ◌*◌, ◌/◌, List, ◌++◌, length, drop, sym, ap, div-add-mod', div-le_self, arith}
 use Rattle.std.proofs.lemmas.List.{length-take-le}
-use Rattle.contents.proofs.Rows.{no_head, head_width, part_of_row, bad_row, all_rows}
-use Rattle.contents.proofs.rule.read_rows.Goals as goal
-use Rattle.contents.proofs.rule.read_rows.Goals.{then-rest-width-ne0-via-then-rest-width-ne0, then-rest-width-ne0-via-else-rest-width-ne0+then-not-are_rows}
+use Rattle.load.proofs.Rows.{no_head, head_width, part_of_row, bad_row, all_rows}
+use Rattle.load.proofs.rule.read_rows.Goals as goal
+use Rattle.load.proofs.rule.read_rows.Goals.{then-rest-width-ne0-via-then-rest-width-ne0, then-rest-width-ne0-via-else-rest-width-ne0+then-not-are_rows}
 
 pub returns-in_default : goal.returns-in_default
 returns-in_default c = no_head c.args.content.now c.args.lengths.now c.args.tag c.in_default.ensures
