@@ -1,0 +1,4 @@
+pub mod Evaluation
+pub mod Sound
+pub mod Searching
+pub mod Fits
