@@ -1,6 +1,6 @@
 -- An evaluation of runs. Assumes nothing.
-use Rattle.std.specs.Prelude.{◌≡◌, ℕ, zero, suc, ◌+◌, ◌-◌, ◌*◌, ◌/◌, ◌%◌, ◌^◌, Bool, true, false, cond, not, ◌&&◌, ◌||◌, List, [], ◌∷◌, ◌++◌, length, Some, None, Option, ◌==◌, nat_lt, slice_index, slice_index_or, get_or, replicate, refl, map}
-use Rattle.bits.specs.Sets.{in?, below, members, size, set_of}
+use Rattle.std.specs.Prelude.{ℕ, zero, suc, ◌+◌, ◌-◌, ◌/◌, ◌%◌, ◌^◌, Bool, true, false, cond, ◌&&◌, ◌||◌, List, [], ◌∷◌, ◌++◌, length, Some, None, Option, ◌==◌, nat_lt, get_or}
+use Rattle.bits.specs.Sets.{in?, members, size}
 use Rattle.network.specs.Book.{Rule, BookMeaning}
 use Rattle.choosers.specs.Choice.{Machine}
 use Rattle.choosers.specs.declared.chooser.Event.TheVariants.{Start, Failed, Stood}
@@ -13,10 +13,6 @@ use Rattle.runs.specs.Figures.{figures_of}
 use Rattle.cores.specs.Core.{Outcome, Outcome.left, Outcome.core}
 use Rattle.cores.specs.Fit.{with_first, with_rule}
 use Rattle.clash.specs.Running.{Lasting, lasting}
-use Rattle.sheets.specs.Sheet.{Sheet}
-use Rattle.sheets.specs.Meaning.{rule_at}
-use Rattle.answers.specs.Answers.{usual, usual_start}
-use Rattle.worked.specs.Examples.{two_less, no_rows_permitted}
 
 -- the test holds at some place of the mask
 abbrev pub some_place : ℕ → ℕ → ℕ → (ℕ → Bool) → Bool

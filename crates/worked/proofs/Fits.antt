@@ -1,11 +1,11 @@
 -- The Fits that the evaluation gives are Fits. Assumes nothing.
-use Rattle.std.proofs.Common.{◌≡◌, ℕ, zero, suc, ◌+◌, ◌-◌, ◌/◌, ◌<◌, ◌≢◌, cond, List, [], ◌∷◌, ◌++◌, Some, None, Option, ◌==◌, nat_lt, refl, ap, ◌∙◌, subst}
+use Rattle.std.proofs.Common.{◌≡◌, ℕ, zero, suc, ◌+◌, ◌-◌, ◌/◌, ◌<◌, ◌≢◌, cond, List, [], ◌∷◌, Some, None, Option, ◌==◌, nat_lt, refl}
 use Rattle.std.proofs.lemmas.Bool.{cond_both, ltb-true, eqb-true, eqb-false}
 use Rattle.bits.specs.Sets.{members, size}
 use Rattle.runs.specs.declared.line.Line.{Line}
 use Rattle.runs.specs.declared.line.Verdict.{Verdict}
 use Rattle.runs.specs.declared.line.Verdict.TheVariants.{Met, Unmet}
-use Rattle.cores.specs.Core.{Outcome, Outcome.left, Outcome.core}
+use Rattle.cores.specs.Core.{Outcome.left}
 use Rattle.cores.specs.Fit.{with_first, with_rule, Gives, Shrinks, Shrinks.all, Shrinks.fewer, Halves, Halves.met, Halves.down, Halves.up, Rounds, Rounds.alone, Rounds.round, Fit, Fit.fills, Fit.clashes}
 use Rattle.worked.proofs.Evaluation.{then, Once, Came, Fitting, by_verdict, with_line, shrunk, shrink, halved, halve, round_end, found_one, rounded, rounds, fit_end, from_candidates, first_run, fit}
 use Rattle.worked.proofs.Sound.{All, then_all}

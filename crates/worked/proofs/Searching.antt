@@ -1,14 +1,13 @@
 -- The runs that the evaluation gives are runs. Assumes nothing.
-use Rattle.std.proofs.Common.{◌≡◌, ℕ, zero, suc, ◌+◌, ◌^◌, ◌<◌, ◌≢◌, Bool, true, false, cond, List, Some, None, Option, ◌==◌, nat_lt, sym, refl, ap, ◌∙◌, subst, arith}
+use Rattle.std.proofs.Common.{◌≡◌, ℕ, zero, suc, ◌+◌, ◌^◌, ◌<◌, Bool, true, false, cond, List, Some, None, Option, ◌==◌, nat_lt, sym, refl, ap, ◌∙◌, subst, arith}
 use Rattle.std.proofs.lemmas.Bool.{cond_both, ltb-true, eqb-true, eqb-false}
-use Rattle.bits.specs.Sets.{In, Lowest}
+use Rattle.bits.specs.Sets.{Lowest}
 use Rattle.network.specs.Book.{BookMeaning}
 use Rattle.choosers.specs.Choice.{Machine}
 use Rattle.choosers.specs.declared.chooser.Event.TheVariants.{Start, Failed, Stood}
-use Rattle.runs.specs.declared.line.Line.{Line}
-use Rattle.runs.specs.Settle.{State, state, left_at, Settles, Fails}
+use Rattle.runs.specs.Settle.{State, state, left_at, Settles}
 use Rattle.runs.specs.Figures.{figures_of}
-use Rattle.runs.specs.Run.{Tried, Choice, Explores, filled, stands, goes_on, ends, TryFails, at_first, at_last, Searches, fails, settled, Run, ran, line, alone, back}
+use Rattle.runs.specs.Run.{Choice, Explores, filled, stands, goes_on, ends, TryFails, at_first, at_last, Searches, fails, settled, Run, ran, line, alone, back}
 use Rattle.clash.specs.Running.{Lasting, lasting}
 use Rattle.worked.proofs.Evaluation.{Out, held, fell, then, Ended, Once, lowest, settle, came, on_with, onward, after_try, tried, try_at, choose, explore, run_end, run}
 use Rattle.worked.proofs.Sound.{All, then_all, lowest_sound, Agree, Settled, settle_sound, figures_same}

@@ -1,16 +1,14 @@
 -- What the evaluation gives, the relations give. Assumes nothing.
-use Rattle.std.proofs.Common.{◌≡◌, ℕ, zero, suc, ◌+◌, ◌-◌, ◌*◌, ◌/◌, ◌%◌, ◌^◌, ◌<◌, ◌≤◌, ◌≢◌, Bool, true, false, cond, not, ◌&&◌, ◌||◌, List, [], ◌∷◌, ◌++◌, length, get_or, map, sum, Some, None, Option, ◌==◌, nat_lt, sym, refl, ap, ◌∙◌, subst, ap₂, arith}
+use Rattle.std.proofs.Common.{◌≡◌, ℕ, zero, suc, ◌+◌, ◌/◌, ◌%◌, ◌^◌, ◌<◌, ◌≤◌, ◌≢◌, Bool, true, false, cond, ◌&&◌, ◌||◌, List, [], ◌∷◌, length, get_or, map, sum, Some, None, Option, ◌==◌, sym, refl, ap, ◌∙◌, subst, ap₂, arith}
 use Rattle.std.specs.List.{range_with_len}
-use Rattle.std.proofs.lemmas.Bool.{cond_both, ltb-true, ltb-false, eqb-true, eqb-false, eq-eqb, true≢false, false≢true, and_parts, and_from}
+use Rattle.std.proofs.lemmas.Bool.{cond_both, eqb-true, eqb-false, eq-eqb, true≢false, false≢true, and_parts, and_from}
 use Rattle.bits.specs.Sets.{In, in?, Lowest, size}
 use Rattle.bits.proofs.Bits.{has_zero}
 use Rattle.bits.proofs.Low.{bit_half, bit_first}
 use Rattle.network.specs.Book.{Rule, BookMeaning, Supported, Remains}
-use Rattle.choosers.specs.Choice.{Machine}
-use Rattle.runs.specs.declared.line.Line.{Line}
-use Rattle.runs.specs.Settle.{State, state, Empty, Lost, left_at, cell_at, out_of, marked, weighed, Turns, none, more, Stops, Revises, absent, kept, removed, Empties, emptied, Position, PositionFails, Takes, TakesFails, Turn, unlisted, taken, TurnFails, Sweep, SweepFails, Settles, rest, again, Fails, at_once, later}
-use Rattle.runs.specs.Figures.{share, joins?, degree_of, figure_of, figures_of}
-use Rattle.worked.proofs.Evaluation.{some_place, lowest, some_row, supported?, Out, held, fell, numbered, after_turn, turns, same_list, then, Ended, revise, take_rule, turn, sweep, sweeps_on, settle}
+use Rattle.runs.specs.Settle.{State, state, Lost, left_at, cell_at, out_of, marked, weighed, Turns, none, more, Stops, Revises, absent, kept, removed, Empties, emptied, Position, PositionFails, Takes, TakesFails, Turn, unlisted, taken, TurnFails, Sweep, Settles, rest, again, Fails, at_once, later}
+use Rattle.runs.specs.Figures.{share, joins?, degree_of, figures_of}
+use Rattle.worked.proofs.Evaluation.{some_place, lowest, some_row, supported?, Out, held, fell, numbered, after_turn, turns, same_list, then, revise, take_rule, turn, sweep, sweeps_on, settle}
 
 -- ---- an option's value, if any, is so
 abbrev pub All : {A : Type 0} → (A → Type 0) → Option A → Type 0
@@ -75,6 +73,7 @@ lowest_sound (suc n) s v =
     higher : (s % 2 == 1) ≡ false → (j : ℕ) → Lowest (s / 2) j → (w : ℕ) → w < suc j → In s w → ⊥
     higher e j l zero lt h = eqb-false (s % 2) 1 e (sym (bit_first s) ∙ h)
     higher e j l (suc w) lt h = l.none w (omega arith) (sym (bit_half s w) ∙ h)
+
     up : (s % 2 == 1) ≡ false → (o : Option ℕ) → All (λ w. (j : ℕ) × (w ≡ v + 1 + j) × Lowest (s / 2) j) o → All (λ w. (j : ℕ) × (w ≡ v + j) × Lowest s j) o
     up e None p = tt
     up e (Some w) p = (suc p.0, omega (arith, p.1), record { there = bit_half s p.0 ∙ p.2.there; none = higher e p.0 p.2 })
