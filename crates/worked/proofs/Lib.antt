@@ -5,3 +5,4 @@ pub mod Fits
 pub mod Playing
 pub mod Showing
 pub mod Results
+pub mod Telling

@@ -26,7 +26,7 @@ book_of s = record { count = length s.rows + length s.formulas; rule = rule_at s
 pub agrees : (s : Sheet) (m : BookMeaning) → Means s m → Agree (book_of s) m
 agrees s m h = record { count = h.count; rules = λ r l. record { cells = h.cells r l; permits = λ row. h.permits r row l } }
 
-abbrev Usual : Type 0
+abbrev pub Usual : Type 0
 Usual = LastConflict Weighted
 
 abbrev evaluated : Example → Option (Played Usual)
@@ -45,7 +45,7 @@ gives NothingPermitted = (refl, refl)
 gives NothingForbidden = (refl, refl)
 gives Freed = (refl, refl)
 
-opens : (x : Example) → opens? (map length lists) (book_of (sheet_of x)) ≡ true
+pub opens : (x : Example) → opens? (map length lists) (book_of (sheet_of x)) ≡ true
 opens Opposed = refl
 opens LoneRule = refl
 opens NothingPermitted = refl
@@ -65,4 +65,4 @@ worked x lengths m before after y p means long make =
     let open' = opens_sound (map length lists) (book_of (sheet_of x)) m agree (opens x) in
     let q : PlaysByRuns usual (sheet (map length lists) m) [] (fresh usual_start) before after y = subst (λ l. PlaysByRuns usual (sheet l m) [] (fresh usual_start) before after y) long p in
     come x after y (evaluated x) (gives x)
-    (plays_sound usual (book_of (sheet_of x)) m agree (map length lists) open' 10 (calls_of x) [] (fresh usual_start) y before after make q)
+    (plays_sound usual (book_of (sheet_of x)) m agree (map length lists) 10 open' (calls_of x) [] (fresh usual_start) y before after make q)

@@ -28,9 +28,9 @@ use Rattle.calls.specs.Runs.{Ran, start_after, Alone, Comes, StepRuns, PlaysByRu
 use Rattle.calls.proofs.Fillings.{starts_long}
 use Rattle.calls.proofs.Following.{judged_same, said_same}
 use Rattle.calls.proofs.RunLaws.{ran_fixed}
-use Rattle.worked.specs.Shows.{done, filled, Shows, Show, Make}
+use Rattle.worked.specs.Shows.{Shown, done, filled, answer_of, Written, Shows, Show, Make}
 use Rattle.worked.proofs.Evaluation.{then, Once, same_list, run, fit}
-use Rattle.worked.proofs.Sound.{All, then_all, Agree, same_true}
+use Rattle.worked.proofs.Sound.{All, then_all, all_map, Agree, same_true}
 use Rattle.worked.proofs.Searching.{RunsOnce, run_sound}
 use Rattle.worked.proofs.Fits.{Lists, Fitted as FittedAs, fit_sound}
 use Rattle.worked.proofs.Playing.{all?, singles, Doing, Played, show_fit, allowed?, opens?, doing, do_fit, do_call, made, add_shown, plays}
@@ -86,27 +86,26 @@ alone_powers f g a =
     get_or-map (v ∷ f) zero l = refl
     get_or-map (v ∷ f) (suc c) l = get_or-map f c (omega arith)
 
-pub shows_fit : (cells : ℕ) (lines : List Line) (out : Outcome (List ℕ)) (a : Step) (f : Values) → a.answer ≡ Fitted f → f.lines ≡ length lines
-    → take (length lines) (vec_items a.buffers.log) ≡ lines → Comes out f (take cells (vec_items a.buffers.filling)) → All (λ s. Shows cells s a) (show_fit lines out)
-shows_fit cells lines (left sets) a f says n log comes =
+-- a Fit's values are those of what it shows, which is written
+pub record FitShows (cells : ℕ) (a : Step) (f : Values) (s : Shown) : Type 0 where
+  pub values : Fitted f ≡ answer_of s
+  pub written : Written cells s a
+
+shows_fit : (cells : ℕ) (lines : List Line) (out : Outcome (List ℕ)) (a : Step) (f : Values) → f.lines ≡ length lines
+    → take (length lines) (vec_items a.buffers.log) ≡ lines → Comes out f (take cells (vec_items a.buffers.filling)) → All (FitShows cells a f) (show_fit lines out)
+shows_fit cells lines (left sets) a f n log comes =
     let v = singles sets in
-    cond_both (same_list sets (map (λ v. 2 ^ v) v)) (Some (filled lines v)) None (All (λ s. Shows cells s a))
+    cond_both (same_list sets (map (λ v. 2 ^ v) v)) (Some (filled lines v)) None (All (FitShows cells a f))
     (λ y. record {
-      answer = says ∙ ap Fitted (values_same f (length lines) None n comes.0);
+      values = ap Fitted (values_same f (length lines) None n comes.0);
       written = (log, alone_powers v (take cells (vec_items a.buffers.filling)) (subst (λ x. Alone x (take cells (vec_items a.buffers.filling))) (same_true sets (map (λ v. 2 ^ v) v) y) comes.1));
     })
     (λ z. tt)
-shows_fit cells lines (core c) a f says n log comes = record { answer = says ∙ ap Fitted (values_same f (length lines) (Some c) n comes); written = log }
+shows_fit cells lines (core c) a f n log comes = record { values = ap Fitted (values_same f (length lines) (Some c) n comes); written = log }
 
-module _ {C : Type 0} (k : Machine C) (e m : BookMeaning) (agree : Agree e m) (lengths : List ℕ) (opens : Opens (sheet lengths m)) (fuel : ℕ) where
+module _ {C : Type 0} (k : Machine C) (e m : BookMeaning) (agree : Agree e m) (lengths : List ℕ) (fuel : ℕ) where
   abbrev F : List Did → Lasting C → Step → Step → Values → Lasting C → Type 0
   F h x b a f y = StepRuns k (sheet lengths m) h x a f y
-
-  -- what a call shows and leaves, after the calls h
-  pub record Does (a : Step) (c : Call) (y : Lasting C) (d : Doing C) : Type 0 where
-    pub shows : Shows (length lengths) d.shown a
-    pub did : did a ≡ made c d.shown
-    pub left : y ≡ d.after
 
   -- the first run was ready, and so is each that lists no more
   fit_ready : {start : List ℕ} {on : ℕ} {x y : Lasting C} {ls : List Line} {out : Outcome (List ℕ)} → Fit (Ran k m start) on x ls out y → Ready m start on
@@ -126,15 +125,16 @@ module _ {C : Type 0} (k : Machine C) (e m : BookMeaning) (agree : Agree e m) (l
         p.1,
       )
 
-  did_same : {c c' : Call} {a a' : Answer} → c ≡ c' → a ≡ a' → ◌≡◌ {A = Did} (record { call = c; answer = a }) (record { call = c'; answer = a' })
-  did_same p q = cc
+  abbrev pub FitDone : Step → Values → Lasting C → Doing C → Type 0
+  FitDone a f y d = FitShows (length lengths) a f d.shown × (y ≡ d.after)
 
-  does_fit : (h : List Did) (x y : Lasting C) (b a : Step) (f : Values) → a.call ≡ AFit → said a.answer ≡ returned f → F h x b a f y → All (Does a AFit y) (do_fit k e lengths fuel h x)
-  does_fit h x y b a f call says p =
+  -- the runs of a Fit, after the calls h
+  pub fit_done : (h : List Did) (x y : Lasting C) (a : Step) (f : Values) → StepRuns k (sheet lengths m) h x a f y → All (FitDone a f y) (do_fit k e lengths fuel h x)
+  fit_done h x y a f p =
       let start = start_after (sheet lengths m) h in
       let on : on_after (sheet lengths m) h ≡ on_after (sheet lengths e) h = ap (set_where (is_on h)) agree.count in
       let runs : Fit (Ran k m start) (on_after (sheet lengths e) h) x (take f.lines (vec_items a.buffers.log)) p.out y = subst (λ z. Fit (Ran k m start) z x (take f.lines (vec_items a.buffers.log)) p.out y) on p.runs in
-      then_all (FittedAs (Ran k m start) (run k e start fuel) (run_ran start (on_after (sheet lengths e) h) (fit_ready runs)) (on_after (sheet lengths e) h) x) (Does a AFit y)
+      then_all (FittedAs (Ran k m start) (run k e start fuel) (run_ran start (on_after (sheet lengths e) h) (fit_ready runs)) (on_after (sheet lengths e) h) x) (FitDone a f y)
       (fit (run k e start fuel) fuel (on_after (sheet lengths e) h) x) (λ d. then (show_fit d.lines d.out) (doing d.state))
       (fit_sound (Ran k m start) (run k e start fuel) (run_ran start (on_after (sheet lengths e) h) (fit_ready runs)) fuel (on_after (sheet lengths e) h) x)
       (λ d q.
@@ -144,9 +144,22 @@ module _ {C : Type 0} (k : Machine C) (e m : BookMeaning) (agree : Agree e m) (l
       let wide = starts_long lengths (standing h) in
       let comes : Comes d.out f (take (length lengths) (vec_items a.buffers.filling)) =
       subst (λ i. Comes d.out f (take i (vec_items a.buffers.filling))) wide (subst (λ o. Comes o f (take (length start) (vec_items a.buffers.filling))) same.1 p.comes) in
-      then_all (λ s. Shows (length lengths) s a) (Does a AFit y) (show_fit d.lines d.out) (doing d.state)
-      (shows_fit (length lengths) d.lines d.out a f (said_same a.answer (Fitted f) says) n log comes)
-      (λ s w. record { shows = w; did = did_same call w.answer; left = same.2 }))
+      then_all (FitShows (length lengths) a f) (FitDone a f y) (show_fit d.lines d.out) (doing d.state) (shows_fit (length lengths) d.lines d.out a f n log comes) (λ s w. (w, same.2)))
+
+  did_same : {c c' : Call} {a a' : Answer} → c ≡ c' → a ≡ a' → ◌≡◌ {A = Did} (record { call = c; answer = a }) (record { call = c'; answer = a' })
+  did_same p q = cc
+
+  -- what a call shows and leaves, after the calls h
+  pub record Does (a : Step) (c : Call) (y : Lasting C) (d : Doing C) : Type 0 where
+    pub shows : Shows (length lengths) d.shown a
+    pub did : did a ≡ made c d.shown
+    pub left : y ≡ d.after
+
+  does_fit : (h : List Did) (x y : Lasting C) (b a : Step) (f : Values) → a.call ≡ AFit → said a.answer ≡ returned f → F h x b a f y → All (Does a AFit y) (do_fit k e lengths fuel h x)
+  does_fit h x y b a f call says p =
+      all_map (FitDone a f y) (Does a AFit y) (do_fit k e lengths fuel h x)
+      (λ d q. let answer : a.answer ≡ answer_of d.shown = said_same a.answer (Fitted f) says ∙ q.0.values in record { shows = record { answer = answer; written = q.0.written }; did = did_same call answer; left = q.1 })
+      (fit_done h x y a f p)
 
   does_change : (c : Call) (x y : Lasting C) (b a : Step) (h : List Did) → b.call ≡ c → c ≢ AFit → Judged (sheet lengths m) (sizes b.buffers) b.call 0 → Makes (sheet lengths m) F h x b a y
       → All (Does a c y) (doing x done)
@@ -156,11 +169,11 @@ module _ {C : Type 0} (k : Machine C) (e m : BookMeaning) (agree : Agree e m) (l
       record { shows = record { answer = q; written = tt }; did = did_same (u.call ∙ is) q; left = refl }
   does_change c x y b a h is ne j (fitted j' e s call d) = absurd (ne (sym is ∙ e))
 
-  judged : (c : Call) (z : Sizes) → Enough z → allowed? lengths e.count c ≡ true → Judged (sheet lengths m) z c 0
-  judged (Pin c v) z n t = let q = and_parts _ _ t in pins opens (ltb-true c (length lengths) q.0) (ltb-true v (get_or lengths c 0) q.1)
-  judged (Free c) z n t = frees opens (ltb-true c (length lengths) t)
-  judged (Switch r on) z n t = switches opens (omega (arith, agree.count, ltb-true r e.count t))
-  judged AFit z n t = fits opens n
+  judged : Opens (sheet lengths m) → (c : Call) (z : Sizes) → Enough z → allowed? lengths e.count c ≡ true → Judged (sheet lengths m) z c 0
+  judged opens (Pin c v) z n t = let q = and_parts _ _ t in pins opens (ltb-true c (length lengths) q.0) (ltb-true v (get_or lengths c 0) q.1)
+  judged opens (Free c) z n t = frees opens (ltb-true c (length lengths) t)
+  judged opens (Switch r on) z n t = switches opens (omega (arith, agree.count, ltb-true r e.count t))
+  judged opens AFit z n t = fits opens n
 
   does : (c : Call) (x y : Lasting C) (b a : Step) (h : List Did) → b.call ≡ c → Judged (sheet lengths m) (sizes b.buffers) b.call 0 → Makes (sheet lengths m) F h x b a y
       → All (Does a c y) (do_call k e lengths fuel h x c)
@@ -174,19 +187,19 @@ module _ {C : Type 0} (k : Machine C) (e m : BookMeaning) (agree : Agree e m) (l
   abbrev pub Play : List Step → Lasting C → Played C → Type 0
   Play after y p = Show (length lengths) p.shown after × (y ≡ p.after)
 
-  pub plays_sound : (cs : List Call) (h : List Did) (x y : Lasting C) (before after : List Step) → Make cs before → PlaysByRuns k (sheet lengths m) h x before after y
+  pub plays_sound : Opens (sheet lengths m) → (cs : List Call) (h : List Did) (x y : Lasting C) (before after : List Step) → Make cs before → PlaysByRuns k (sheet lengths m) h x before after y
       → All (Play after y) (plays k e lengths fuel cs h x)
-  plays_sound [] h x y _ _ w no_calls = (tt, refl)
-  plays_sound [] h x y _ _ w (and_more d p) = absurd w
-  plays_sound (c ∷ cs) h x y _ _ w no_calls = absurd w
-  plays_sound (c ∷ cs) h x y _ _ w (and_more {t = t} {b = b} {a = a} {before = before} {after = after} d p) =
+  plays_sound opens [] h x y _ _ w no_calls = (tt, refl)
+  plays_sound opens [] h x y _ _ w (and_more d p) = absurd w
+  plays_sound opens (c ∷ cs) h x y _ _ w no_calls = absurd w
+  plays_sound opens (c ∷ cs) h x y _ _ w (and_more {t = t} {b = b} {a = a} {before = before} {after = after} d p) =
       let rest : Doing C → Option (Played C) = λ g. then (plays k e lengths fuel cs (made c g.shown ∷ h) g.after) (add_shown g.shown) in
       cond_both (allowed? lengths e.count c) (then (do_call k e lengths fuel h x c) rest) None (All (Play (a ∷ after) y))
       (λ yes.
       then_all (Does a c t) (Play (a ∷ after) y) (do_call k e lengths fuel h x c) rest
-      (does c x t b a h w.0 (subst (λ z. Judged (sheet lengths m) (sizes b.buffers) z 0) (sym w.0) (judged c (sizes b.buffers) w.1 yes)) d)
+      (does c x t b a h w.0 (subst (λ z. Judged (sheet lengths m) (sizes b.buffers) z 0) (sym w.0) (judged opens c (sizes b.buffers) w.1 yes)) d)
       (λ g q.
       then_all (Play after y) (Play (a ∷ after) y) (plays k e lengths fuel cs (made c g.shown ∷ h) g.after) (add_shown g.shown)
-      (plays_sound cs (made c g.shown ∷ h) g.after y before after w.2 (subst₂ (λ i z. PlaysByRuns k (sheet lengths m) (i ∷ h) z before after y) q.did q.left p))
+      (plays_sound opens cs (made c g.shown ∷ h) g.after y before after w.2 (subst₂ (λ i z. PlaysByRuns k (sheet lengths m) (i ∷ h) z before after y) q.did q.left p))
       (λ r z. ((q.shows, z.0), z.1))))
       (λ no. tt)

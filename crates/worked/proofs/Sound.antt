@@ -19,6 +19,10 @@ pub then_all : {A B : Type 0} (P : A → Type 0) (Q : B → Type 0) (o : Option 
 then_all P Q None f p g = tt
 then_all P Q (Some a) f p g = g a p
 
+pub all_map : {A : Type 0} (P Q : A → Type 0) (o : Option A) → ((a : A) → P a → Q a) → All P o → All Q o
+all_map P Q None g p = tt
+all_map P Q (Some a) g p = g a p
+
 -- ---- places of a mask
 module _ (p : ℕ → Bool) where
   abbrev Place : ℕ → ℕ → ℕ → Type 0

@@ -1,5 +1,5 @@
 -- The worked sheets, and what is to come of them. Assumes nothing.
-use Rattle.std.specs.Prelude.{◌≡◌, ℕ, false, List, [], ◌∷◌, map, length, take, ℤ, pos}
+use Rattle.std.specs.Prelude.{◌≡◌, ℕ, false, List, [], ◌∷◌, map, length, take, ℤ, pos, codes}
 use Rattle.network.specs.Book.{BookMeaning}
 use Rattle.runs.specs.declared.line.Line.{Line}
 use Rattle.runs.specs.declared.line.Verdict.TheVariants.{Met, Unmet}
@@ -85,6 +85,14 @@ weights_of LoneRule = 1 ∷ 1 ∷ 3 ∷ []
 weights_of NothingPermitted = 3 ∷ []
 weights_of NothingForbidden = 1 ∷ []
 weights_of Freed = 4 ∷ 1 ∷ 1 ∷ []
+
+-- what fit prints for the file of the sheet, where one Fit is made
+abbrev pub text_of : Example → List ℕ
+text_of Opposed = codes "CLASH 6\nrule 0\nrule 1\n"
+text_of LoneRule = codes "CLASH 4\nrule 2\n"
+text_of NothingPermitted = codes "CLASH 3\nrule 0\n"
+text_of NothingForbidden = codes "FITS 1\nC0=1\nC1=1\nC2=1\n"
+text_of Freed = codes "CLASH 6\nrule 0\nrule 1\n"
 
 -- the calls of an example, made over any book that means its sheet, from the steps before to the steps after: they show what they are to show, and leave the weights
 abbrev pub Worked : Example → List ℕ → BookMeaning → List Step → List Step → List ℕ → Type 0
