@@ -1,0 +1,101 @@
+-- The worked sheets, and what is to come of them. Assumes nothing.
+use Rattle.std.specs.Prelude.{◌≡◌, ℕ, false, List, [], ◌∷◌, map, length, take, ℤ, pos, codes}
+use Rattle.network.specs.Book.{BookMeaning}
+use Rattle.runs.specs.declared.line.Line.{Line}
+use Rattle.runs.specs.declared.line.Verdict.TheVariants.{Met, Unmet}
+use Rattle.calls.specs.declared.call.Call.{Call}
+use Rattle.calls.specs.declared.call.Call.TheVariants.{Pin, Free, Switch, Fit}
+use Rattle.calls.specs.declared.step.Step.{Step}
+use Rattle.rows.specs.declared.rule.Kind.{Kind}
+use Rattle.rows.specs.declared.rule.Kind.TheVariants.{Permitted, Forbidden}
+use Rattle.formulas.specs.declared.node.Shift.TheVariants.{Bare}
+use Rattle.formulas.specs.declared.node.Side.{Side}
+use Rattle.formulas.specs.declared.node.Side.TheVariants.{Number, Cell}
+use Rattle.formulas.specs.declared.node.Relation.TheVariants.{Equal, NotEqual, Less}
+use Rattle.formulas.specs.Tree.{Condition, compares}
+use Rattle.sheets.specs.Sheet.{Sheet}
+use Rattle.sheets.specs.Meaning.{Means}
+use Rattle.worked.specs.declared.example.Example.{Example}
+use Rattle.worked.specs.declared.example.Example.TheVariants.{Opposed, LoneRule, NothingPermitted, NothingForbidden, Freed}
+use Rattle.worked.specs.Shows.{Shown, done, filled, clashed, Show, Make}
+
+-- the list of each cell
+abbrev pub lists : List (List ℤ)
+lists =
+    let three = pos 1 ∷ pos 2 ∷ pos 3 ∷ [] in
+    three ∷ three ∷ three ∷ []
+
+-- the sides C0, C1 and so on, and 1, 2 and so on
+abbrev pub cell : ℕ → Side
+cell c = Cell c Bare
+
+abbrev pub number : ℕ → Side
+number n = Number (pos n)
+
+-- a sheet with these formulas, and one with one rule on C0 of no rows
+abbrev pub with_formulas : List Condition → Sheet
+with_formulas conditions = record { lists = lists; rows = []; formulas = conditions }
+
+abbrev pub with_no_row : Kind → Sheet
+with_no_row kind = record { lists = lists; rows = record { kind = kind; cells = 0 ∷ []; rows = [] } ∷ []; formulas = [] }
+
+-- C0<C1, C1<C0 and C2=2
+abbrev pub opposed : Sheet
+opposed = with_formulas (compares (cell 0) Less (cell 1) ∷ compares (cell 1) Less (cell 0) ∷ compares (cell 2) Equal (number 2) ∷ [])
+
+-- C0<C1, C0<>1 and C2<1
+abbrev pub lone_rule : Sheet
+lone_rule = with_formulas (compares (cell 0) Less (cell 1) ∷ compares (cell 0) NotEqual (number 1) ∷ compares (cell 2) Less (number 1) ∷ [])
+
+-- the sheet of each example
+abbrev pub sheet_of : Example → Sheet
+sheet_of Opposed = opposed
+sheet_of LoneRule = lone_rule
+sheet_of NothingPermitted = with_no_row Permitted
+sheet_of NothingForbidden = with_no_row Forbidden
+sheet_of Freed = opposed
+
+-- the calls that are made on it
+abbrev pub calls_of : Example → List Call
+calls_of Opposed = Fit ∷ []
+calls_of LoneRule = Fit ∷ []
+calls_of NothingPermitted = Fit ∷ []
+calls_of NothingForbidden = Fit ∷ []
+calls_of Freed = Switch 1 false ∷ Pin 0 2 ∷ Fit ∷ Free 0 ∷ Fit ∷ []
+
+-- a line of a run that found a filling, and of one that found none and used these rules; a set of rules is a mask, as 5 for rules 0 and 2
+abbrev pub met : ℕ → Line
+met listed = record { listed = listed; used = 0; verdict = Met }
+
+abbrev pub unmet : ℕ → ℕ → Line
+unmet listed used = record { listed = listed; used = used; verdict = Unmet }
+
+-- what each of these calls shows
+abbrev pub shown_of : Example → List Shown
+shown_of Opposed = clashed (unmet 7 3 ∷ unmet 3 3 ∷ met 0 ∷ met 1 ∷ met 2 ∷ unmet 3 3 ∷ []) 3 ∷ []
+shown_of LoneRule = clashed (unmet 7 7 ∷ met 0 ∷ met 3 ∷ unmet 4 4 ∷ []) 4 ∷ []
+shown_of NothingPermitted = clashed (unmet 1 1 ∷ met 0 ∷ unmet 1 1 ∷ []) 1 ∷ []
+shown_of NothingForbidden = filled (met 1 ∷ []) (0 ∷ 0 ∷ 0 ∷ []) ∷ []
+shown_of Freed = done ∷ done ∷ clashed (unmet 5 1 ∷ unmet 1 1 ∷ met 0 ∷ unmet 1 1 ∷ []) 1 ∷ done ∷ filled (met 5 ∷ []) (0 ∷ 1 ∷ 1 ∷ []) ∷ []
+
+-- the weights of the rules after these calls
+abbrev pub weights_of : Example → List ℕ
+weights_of Opposed = 1 ∷ 4 ∷ 1 ∷ []
+weights_of LoneRule = 1 ∷ 1 ∷ 3 ∷ []
+weights_of NothingPermitted = 3 ∷ []
+weights_of NothingForbidden = 1 ∷ []
+weights_of Freed = 4 ∷ 1 ∷ 1 ∷ []
+
+-- what fit prints for the file of the sheet, where one Fit is made
+abbrev pub text_of : Example → List ℕ
+text_of Opposed = codes "CLASH 6\nrule 0\nrule 1\n"
+text_of LoneRule = codes "CLASH 4\nrule 2\n"
+text_of NothingPermitted = codes "CLASH 3\nrule 0\n"
+text_of NothingForbidden = codes "FITS 1\nC0=1\nC1=1\nC2=1\n"
+text_of Freed = codes "CLASH 6\nrule 0\nrule 1\n"
+
+-- the calls of an example, made over any book that means its sheet, from the steps before to the steps after: they show what they are to show, and leave the weights
+abbrev pub Worked : Example → List ℕ → BookMeaning → List Step → List Step → List ℕ → Type 0
+Worked x lengths book before after weights =
+    Means (sheet_of x) book → lengths ≡ map length lists → Make (calls_of x) before
+    → Show 3 (shown_of x) after × (take (length (weights_of x)) weights ≡ weights_of x)

@@ -1,0 +1,41 @@
+//! The worked sheets.
+ghost use Rattle.std.specs.Prelude.{◌≡◌};
+ghost use Rattle.sheets.specs.Sheet.{file_of};
+ghost use Rattle.worked.specs.Examples.{sheet_of};
+
+/// A sheet, with the calls that are made on it. Each of its three cells has the list 1, 2, 3.
+#[derive(Clone, Copy, Debug, PartialEq, Eq)]
+pub enum Example {
+    /// `C0<C1`, `C1<C0` and `C2=2`, and a Fit.
+    Opposed,
+    /// `C0<C1`, `C0<>1` and `C2<1`, and a Fit.
+    LoneRule,
+    /// A rule on C0 that permits no row, and a Fit.
+    NothingPermitted,
+    /// A rule on C0 that forbids no row, and a Fit.
+    NothingForbidden,
+    /// The rules of `Opposed`. Rule 1 is switched off, C0 is pinned to place 2, and a Fit is made; then C0 is freed, and another Fit is made.
+    Freed,
+}
+
+impl Example {
+    /// The file of its sheet.
+    pub fn file(self) -> &'static [u8]
+        ensures { result.now ≡ file_of (sheet_of self) }
+    {
+        match self {
+            Example::Opposed | Example::Freed => {
+                b"\x01\x00\x0c\x00\x00\x00\x01\x00\x00\x00\x02\x00\x00\x00\x03\x01\x00\x0c\x00\x00\x00\x01\x00\x00\x00\x02\x00\x00\x00\x03\x01\x00\x0c\x00\x00\x00\x01\x00\x00\x00\x02\x00\x00\x00\x03\x03\x00\x05C0<C1\x03\x00\x05C1<C0\x03\x00\x04C2=2\x04\x00\x00"
+            }
+            Example::LoneRule => {
+                b"\x01\x00\x0c\x00\x00\x00\x01\x00\x00\x00\x02\x00\x00\x00\x03\x01\x00\x0c\x00\x00\x00\x01\x00\x00\x00\x02\x00\x00\x00\x03\x01\x00\x0c\x00\x00\x00\x01\x00\x00\x00\x02\x00\x00\x00\x03\x03\x00\x05C0<C1\x03\x00\x05C0<>1\x03\x00\x04C2<1\x04\x00\x00"
+            }
+            Example::NothingPermitted => {
+                b"\x01\x00\x0c\x00\x00\x00\x01\x00\x00\x00\x02\x00\x00\x00\x03\x01\x00\x0c\x00\x00\x00\x01\x00\x00\x00\x02\x00\x00\x00\x03\x01\x00\x0c\x00\x00\x00\x01\x00\x00\x00\x02\x00\x00\x00\x03\x02\x00\x03\x00\x01\x00\x04\x00\x00"
+            }
+            Example::NothingForbidden => {
+                b"\x01\x00\x0c\x00\x00\x00\x01\x00\x00\x00\x02\x00\x00\x00\x03\x01\x00\x0c\x00\x00\x00\x01\x00\x00\x00\x02\x00\x00\x00\x03\x01\x00\x0c\x00\x00\x00\x01\x00\x00\x00\x02\x00\x00\x00\x03\x02\x00\x03\x01\x01\x00\x04\x00\x00"
+            }
+        }
+    }
+}
