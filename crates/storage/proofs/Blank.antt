@@ -1,11 +1,13 @@
 -- Stores that repeat one value. Assumes nothing.
-use Rattle.std.proofs.Common.{◌≡◌, ℕ, List, length, replicate, sym, ap, ◌∙◌, subst, arith}
+use Rattle.std.proofs.Common.{◌≡◌, ℕ, List, [], ◌∷◌, length, replicate, ◌⊎◌, ⊎_elim, refl, sym, ◌∙◌, arith}
 use Rattle.std.proofs.lemmas.List.{length-replicate, get_or-replicate, ext_get_or}
 use Rattle.std.specs.Array.{AllOfLen}
+use Rattle.std.specs.List.{AllByRecursion}
 
--- what repeats a value repeats it as often as it is long
-pub blank_sized : {X : Type 0} (x : X) (n : ℕ) (xs : List X) → xs ≡ replicate n x → xs ≡ replicate (length xs) x
-blank_sized x n xs e = subst (λ k. xs ≡ replicate k x) (sym (ap length e ∙ length-replicate n x)) e
+-- what is a value or its clones throughout, where a clone is the value, repeats it
+pub blank : {X : Type 0} {Q : X → Type 0} (x : X) (xs : List X) → ((y : X) → Q y → y ≡ x) → AllByRecursion (λ y. (y ≡ x) ⊎ Q y) xs → xs ≡ replicate (length xs) x
+blank x [] h all = refl
+blank x (y ∷ ys) h (all, rest) = λ i. ⊎_elim (λ e. e) (λ q. h y q) all i ∷ blank x ys h rest i
 
 -- an array of zeros
 pub zeros : (n : ℕ) (xs : List ℕ) → AllOfLen (λ x. x ≡ 0) xs n → xs ≡ replicate n 0
