@@ -1,9 +1,10 @@
-//! Prints the text of a small sheet, and what its books say of each place. The sheet is put into the stores by hand.
+//! Prints the text of a small sheet, and what its books say of each place, as they stand and turned. The sheet is put into the stores by hand.
 #![tactic(auto)]
 
 use formulas::node::{Node, Relation, Shift, Side};
 use listing::listing;
 use network::book::RuleBook;
+use network::turned::Turned;
 use reader::formula::Formula;
 use rows::rule::{Kind, RowsRule};
 use sheet_books::books;
@@ -12,7 +13,7 @@ use std::io::Write;
 
 /// Two cells, two rules by rows, of which the second forbids no row, and a rule by a formula.
 const FILE: &[u8] =
-    b"\x01\x00\x0c\xff\xff\xff\xff\x00\x00\x00\x02\x00\x00\x00\x1e\x01\x00\x08\x00\x00\x00\x04\x00\x00\x00\x05\x02\x00\x08\x00\x02\x00\x01\x00\x01\x01\x00\x02\x00\x03\x01\x01\x01\x03\x00\x1aAND(C0<C1,AND(C0<>2,C1=5))\x04\x00\x00";
+    b"\x01\x00\x0c\xff\xff\xff\xff\x00\x00\x00\x02\x00\x00\x00\x1e\x01\x00\x08\x00\x00\x00\x04\x00\x00\x00\x05\x02\x00\x08\x00\x02\x00\x01\x00\x01\x02\x01\x02\x00\x03\x01\x01\x01\x03\x00\x1aAND(C0<C1,AND(C0<>2,C1=5))\x04\x00\x00";
 
 /// How much of the stores it takes.
 const EXTENT: Extent = Extent {
@@ -63,9 +64,8 @@ fn nodes() -> [Node; 5] {
     ]
 }
 
-/// For each rule and position, which places have support.
-fn print_support(rt: &HostRuntime, stores: &Stores<'_>) -> anyhow::Result<()> {
-    let book = books(stores, EXTENT);
+/// For each rule and position of a book, which places have support.
+fn print_support<B: RuleBook>(rt: &HostRuntime, book: &B) -> anyhow::Result<()> {
     for rule in 0..book.count() {
         for position in 0..book.width(rule) {
             let cell = book.cell(rule, position);
@@ -86,7 +86,7 @@ fn run(rt: &HostRuntime) -> anyhow::Result<()> {
         lengths: &mut [3, 2],
         numbers: &mut numbers(),
         rules: &mut rules(),
-        places: &mut [0, 1, 1, 0],
+        places: &mut [0, 1, 2, 1],
         formulas: &mut [Formula {
             root: 4,
             width: 2,
@@ -97,7 +97,9 @@ fn run(rt: &HostRuntime) -> anyhow::Result<()> {
     let mut out = Vec::new(rt.alloc());
     listing(&mut out, FILE, &stores, EXTENT)?;
     rt.stdout().write_all(&out)?;
-    print_support(rt, &stores)
+    print_support(rt, &books(&stores, EXTENT))?;
+    println!(rt; "turned")?;
+    print_support(rt, &Turned::new(books(&stores, EXTENT), [true; 64]))
 }
 
 fn main(rt: HostRuntime) -> anyhow::Result<()> {
