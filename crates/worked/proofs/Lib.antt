@@ -6,3 +6,4 @@ pub mod Playing
 pub mod Showing
 pub mod Results
 pub mod Telling
+pub mod Sampling

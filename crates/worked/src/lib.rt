@@ -10,6 +10,7 @@ ghost use Rattle.worked.specs.declared.example.Example.{Example};
 ghost use Rattle.worked.specs.Examples.{Worked, text_of};
 
 pub mod example;
+pub mod sample;
 
 use crate::example::Example;
 use answers::answer::answer;

@@ -1,0 +1,42 @@
+//! The worked formulas.
+ghost use Rattle.std.specs.Prelude.{◌≡◌, ◌≤◌, IfOk};
+ghost use Rattle.worked.specs.Samples.{bytes_of, fault_of, PermitsNone};
+
+use formulas::fault::FormulaFault;
+use formulas::node::Node;
+use reader::formula::{NODES, read};
+use std::alloc::{AllocError, Global};
+
+/// A formula, or what is not quite one.
+#[derive(Clone, Copy, Debug, PartialEq, Eq)]
+pub enum Sample {
+    /// `1=1`, which has no cell.
+    NoCell,
+    /// `C0=07`, where a digit stands after a leading zero.
+    LeadingZero,
+    /// `C0<>C0`, which permits no row.
+    UnlikeItself,
+}
+
+impl Sample {
+    /// Its bytes.
+    pub fn text(self) -> &'static [u8]
+        ensures bytes { result.now ≡ bytes_of self }
+        ensures none { self ≡ Sample.UnlikeItself → PermitsNone result.now }
+    {
+        match self {
+            Sample::NoCell => b"1=1",
+            Sample::LeadingZero => b"C0=07",
+            Sample::UnlikeItself => b"C0<>C0",
+        }
+    }
+
+    /// Its fault, if it has one, where it is read as a formula on the first `cells` cells.
+    pub fn fault(self, heap: Global, cells: u8) -> Result<Option<FormulaFault>, AllocError>
+        ensures { IfOk result (λ o. 1 ≤ cells → o ≡ fault_of self) }
+    {
+        let mut nodes = vec![in heap; Node::Free; NODES]?;
+        let mut used = 0;
+        Ok(read(self.text(), cells, &mut nodes, &mut used).err())
+    }
+}
