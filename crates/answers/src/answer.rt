@@ -6,13 +6,11 @@ ghost use Rattle.sheet_books.specs.Books.{Holds};
 ghost use Rattle.answers.specs.Answers.{SheetText, Answers};
 
 use crate::fit::{fit_step, push_fit};
-use formulas::node::Node;
 use load::load::load;
-use reader::formula::{Formula, NODES};
-use rows::rule::RowsRule;
 use sheet_books::{books, lengths};
-use sheets::stores::{CELLS, Extent, NUMBERS, PLACES, RULES, Stores};
+use sheets::stores::{Extent, Stores};
 use std::alloc::{AllocError, Global};
+use storage::Storage;
 use text::push_fault;
 
 /// The text of one Fit on the sheet in the stores.
@@ -52,21 +50,8 @@ fn answer_in(heap: Global, file: &[u8], stores: &mut Stores<'_>) -> Result<Strin
 pub fn answer(heap: Global, file: &[u8]) -> Result<String, AllocError>
     ensures { IfOk result (λ v. Answers file.now (string_bytes v)) }
 {
-    let mut lengths = vec![in heap; 0u8; CELLS]?;
-    let mut numbers = vec![in heap; 0i32; NUMBERS]?;
-    let mut rules = vec![in heap; RowsRule::default(); RULES]?;
-    let mut places = vec![in heap; 0u8; PLACES]?;
-    let mut formulas = vec![in heap; Formula::default(); RULES]?;
-    let mut nodes = vec![in heap; Node::Free; NODES]?;
-    let mut stores = Stores {
-        lengths: &mut lengths,
-        numbers: &mut numbers,
-        rules: &mut rules,
-        places: &mut places,
-        formulas: &mut formulas,
-        nodes: &mut nodes,
-    };
-    answer_in(heap, file, &mut stores)
+    let mut storage = Storage::new(heap)?;
+    answer_in(heap, file, &mut storage.lend())
 }
 
 #[cfg(test)]

@@ -1,5 +1,5 @@
 -- What lasts from run to run, and what is asked of something that runs. Assumes nothing.
-use Rattle.std.specs.Prelude.{◌≡◌, ℕ, ◌≤◌, List, length}
+use Rattle.std.specs.Prelude.{ℕ, List}
 use Rattle.bits.specs.Sets.{Subset}
 use Rattle.runs.specs.declared.line.Line.{Line}
 use Rattle.cores.specs.Fit.{Lawful}
@@ -11,12 +11,6 @@ pub record Lasting (C : Type 0) : Type 0 where
 
 abbrev pub lasting : {C : Type 0} → C → List ℕ → Lasting C
 lasting c w = record { chooser = c; weights = w }
-
--- the buffers of a run: a weight for each of 64 rules, the work buffer, and a set for each cell
-pub record Room (cells : ℕ) (weights work sets : List ℕ) : Type 0 where
-  pub weighed : 64 ≤ length weights
-  pub free : 4096 ≤ length work
-  pub same : length sets ≡ cells
 
 -- the lines are right, and what may be listed may be listed in part
 pub record Laws {S O : Type 0} (ready fits : ℕ → Type 0) (runs : S → Line → O → S → Type 0) : Type 0 where

@@ -1,5 +1,5 @@
 //! A search for a core that is under way.
-ghost use Rattle.clash.specs.Running.{Room};
+ghost use Rattle.readiness.specs.Room.{Room};
 
 use crate::runner::Runner;
 use runs::line::Line;

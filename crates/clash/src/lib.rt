@@ -1,4 +1,4 @@
-//! From a clash to its core, by runs of anything that runs. Uses `bits`, `runs` and `cores`.
+//! From a clash to its core, by runs of anything that runs. Uses `bits`, `runs`, `readiness` and `cores`.
 #![tactic(auto)]
 
 mod core_search;

@@ -1,7 +1,8 @@
 //! What the second phase asks of a run.
-ghost use Rattle.std.specs.Prelude.{◌≡◌, ℕ, List};
+ghost use Rattle.std.specs.Prelude.{◌≡◌, ℕ, List, Decides};
 ghost use Rattle.runs.specs.declared.line.Line.{Line};
-ghost use Rattle.clash.specs.Running.{Lasting, lasting, Room, Laws};
+ghost use Rattle.clash.specs.Running.{Lasting, lasting, Laws};
+ghost use Rattle.readiness.specs.Room.{Room};
 
 use runs::line::Line;
 
@@ -21,6 +22,14 @@ pub trait Runner<C>: Sized {
 
     /// Every line is right.
     ghost laws: { (r : Self) → Laws (ready r) (fits r) (runs r) };
+
+    /// The number of cells.
+    fn cell_count(&self) -> usize
+        ensures { result ≡ cells self.now };
+
+    /// Whether the rules of a set may be listed.
+    fn is_ready(&self, listed: u64) -> bool
+        ensures { Decides result (ready self.now listed) };
 
     /// A run that lists some rules.
     // The host lends each buffer, so they come one by one.

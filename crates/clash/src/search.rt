@@ -1,9 +1,10 @@
 //! From a clash to its core.
-ghost use Rattle.std.specs.Prelude.{◌≡◌, ℕ, ◌+◌, ◌*◌, ◌<◌, ◌≤◌, List, length, slice_set};
+ghost use Rattle.std.specs.Prelude.{◌≡◌, ℕ, ◌+◌, ◌*◌, ◌<◌, ◌≤◌, ◌↔◌, List, length, slice_set, IsSome, IfSome, IfNone};
 ghost use Rattle.bits.specs.Sets.{Subset, members, size};
 ghost use Rattle.runs.specs.declared.line.Line.{Line};
 ghost use Rattle.cores.specs.Fit.{with_first, Shrinks, Halves, Rounds};
-ghost use Rattle.clash.specs.Running.{lasting, Room};
+ghost use Rattle.readiness.specs.Room.{Room};
+ghost use Rattle.clash.specs.Running.{lasting};
 ghost use Rattle.clash.specs.Logged.{Logged};
 ghost use Rattle.clash.specs.Seeking.{Keeps, lasting_of, Logs};
 
@@ -12,6 +13,7 @@ use crate::fitted::Fitted;
 use crate::masks::{first, nth};
 use crate::runner::Runner;
 use bits::{count, with};
+use readiness::room::is_roomy;
 use runs::line::{Line, Verdict};
 
 /// A round: the rules found so far, and how many of the candidates are left.
@@ -139,7 +141,8 @@ impl<T: Runner<C>, C> CoreSearch<'_, '_, T, C> {
     }
 }
 
-/// A Fit of the rules that are on: one run, and at a clash the search for its core. Where that run finds a filling, the sets are those that it left.
+/// A Fit of the rules that are on, where these may be run and it has its buffers; else `None`, and nothing is touched.
+/// It is one run, and at a clash the search for its core. Where that run finds a filling, the sets are those that it left.
 // The host lends each buffer, so they come one by one; `CoreSearch` holds them from here on.
 pub fn fit<T: Runner<C>, C>(
     runner: &T,
@@ -149,13 +152,18 @@ pub fn fit<T: Runner<C>, C>(
     sets: &mut [u64],
     on: u64,
     log: &mut [Line],
-) -> Fitted
-    requires room { Room (T.Runner.cells runner.now) weights.old work.old sets.old }
-    requires ready { T.Runner.ready runner.now on }
-    requires lines { 450 ≤ length log.old }
-    ensures { Logged (T.Runner.runs runner.now) (T.Runner.fits runner.now) on (lasting chooser.old weights.old) log.old
-        result (lasting chooser.new weights.new) sets.new log.new }
+) -> Option<Fitted>
+    ensures made { IsSome result ↔ Room (T.Runner.cells runner.now) weights.old work.old sets.old × T.Runner.ready runner.now on × 450 ≤ length log.old }
+    ensures untouched { IfNone result ((chooser.new ≡ chooser.old) × (weights.new ≡ weights.old) × (work.new ≡ work.old) × (sets.new ≡ sets.old) × (log.new ≡ log.old)) }
+    ensures logged { IfSome result (λ f. Logged (T.Runner.runs runner.now) (T.Runner.fits runner.now) on (lasting chooser.old weights.old) log.old
+        f (lasting chooser.new weights.new) sets.new log.new) }
 {
+    if !is_roomy(runner.cell_count(), weights, work, sets)
+        || !runner.is_ready(on)
+        || log.len() < 450
+    {
+        return None;
+    }
     let mut search = CoreSearch {
         runner,
         chooser,
@@ -165,5 +173,5 @@ pub fn fit<T: Runner<C>, C>(
         log,
         lines: 0,
     };
-    search.solve(on)
+    Some(search.solve(on))
 }

@@ -3,3 +3,5 @@ pub mod Adding
 pub mod Within
 pub mod Steps
 pub mod Sizes
+pub mod Lists
+pub mod Rows

@@ -1,2 +1,4 @@
+pub mod Parts
+pub mod Read
 pub mod Fields
 pub mod Load

@@ -8,9 +8,9 @@ ghost use Rattle.sheets.specs.declared.fault.RuleFault.TheVariants.{List as List
 ghost use Rattle.sheets.specs.Sheet.{Sheet, RowsField, list_bytes, rows_bytes, GoodList, GoodRows, GoodFormula, Good, with_list, with_rows, with_formula};
 ghost use Rattle.load.specs.Fields.{Kept, Holds, Added, Inside};
 
+use crate::list::read_list;
 use crate::loading::Loading;
-use contents::list::read_list;
-use contents::rule::read_rows;
+use crate::rule::read_rows;
 use formulas::fault::FormulaFault;
 use formulas::node::Node;
 use reader::formula::{Formula, NODES, read};

@@ -1,5 +1,4 @@
-//! What Open checks, what a Fit starts from, and the bytes of a filling. Uses `bits`, `network`, `cores` and `calls`.
+//! What Open checks. Uses `network`, `readiness` and `calls`.
 #![tactic(auto)]
 
 pub mod check;
-pub mod start;

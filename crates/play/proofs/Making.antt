@@ -23,7 +23,7 @@ use Rattle.calls.specs.Promise.{Keeps}
 use Rattle.calls.specs.Runs.{start_of, start_after, FitRuns, StepDone}
 use Rattle.calls.proofs.Fillings.{few_cells, few_rules}
 use Rattle.calls.proofs.Promising.{done_opens, stands_same, stands_changed, valid_next}
-use Rattle.opening.specs.Pins.{held}
+use Rattle.session.specs.Pins.{held}
 use Rattle.session.specs.declared.table.Table.{Table}
 use Rattle.session.specs.declared.session.Session.{Session}
 use Rattle.session.specs.Calls.{sheet_of, lasting_of, with_lasting, changed as table_changed, Changed, table_start, table_on, sizes_of, FitCalled}

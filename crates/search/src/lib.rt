@@ -1,4 +1,4 @@
-//! A run: settling and tries, to a filling or to none. Uses `bits`, `network`, `choosers`, `runs`, `settling` and `figures`.
+//! A run: settling and tries, to a filling or to none. Uses `bits`, `network`, `choosers`, `runs`, `readiness`, `settling` and `figures`.
 #![tactic(auto)]
 
 pub mod explore;

@@ -19,7 +19,7 @@ use Rattle.calls.specs.History.{Valid}
 use Rattle.calls.specs.Runs.{Ran, Alone, Comes}
 use Rattle.calls.proofs.Fillings.{ready, starts_long, where_small}
 use Rattle.calls.proofs.Promising.{first_run}
-use Rattle.opening.specs.Pins.{held, LowestByte}
+use Rattle.session.specs.Pins.{held, LowestByte}
 use Rattle.session.specs.declared.session.Session.{Session}
 use Rattle.session.specs.Calls.{sheet_of, lasting_of, with_lasting, table_start, table_on, Solved}
 

@@ -13,7 +13,7 @@ use Rattle.calls.specs.Sheet.{Sheet, sheet, cells, Sizes, Judged}
 use Rattle.calls.specs.History.{set_where}
 use Rattle.calls.specs.Promise.{Keeps}
 use Rattle.calls.specs.Runs.{starts, FitRuns}
-use Rattle.opening.specs.Pins.{held}
+use Rattle.session.specs.Pins.{held}
 use Rattle.session.specs.declared.table.Table.{Table}
 use Rattle.session.specs.declared.session.Session.{Session}
 

@@ -11,6 +11,7 @@ ghost use Rattle.clash.specs.Logged.{Logged};
 ghost use Rattle.calls.specs.Runs.{Ran};
 ghost use Rattle.session.specs.Calls.{sheet_of, sizes_of, Made, Changed, FitCalled, Solved};
 
+use crate::start::{rules_on, set_starts, write_lowest};
 use crate::table::Table;
 use crate::task::Task;
 use calls::refusal::Refusal;
@@ -19,7 +20,6 @@ use clash::fitted::Fitted;
 use clash::search::fit;
 use network::book::RuleBook;
 use opening::check::check;
-use opening::start::{rules_on, set_starts, write_lowest};
 use runs::line::Line;
 
 /// A session over the lists of some cells, given by their lengths, a rule book and a cell chooser.
@@ -152,7 +152,7 @@ impl<B: RuleBook, C: Chooser> Session<'_, B, C> {
             book: &self.book,
             start,
         };
-        let fitted = fit(
+        let Some(fitted) = fit(
             &task,
             &mut self.chooser,
             &mut self.table.weights,
@@ -160,7 +160,9 @@ impl<B: RuleBook, C: Chooser> Session<'_, B, C> {
             sets,
             on,
             log,
-        );
+        ) else {
+            unreachable!()
+        };
         if fitted.core.is_none() {
             write_lowest(sets, filling);
         }

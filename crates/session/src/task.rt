@@ -8,6 +8,7 @@ ghost use Rattle.calls.proofs.RunLaws.{ran_laws};
 use choosers::chooser::Chooser;
 use clash::runner::Runner;
 use network::book::RuleBook;
+use readiness::ready::is_ready;
 use runs::line::Line;
 use search::run::run;
 
@@ -29,6 +30,14 @@ impl<B: RuleBook, C: Chooser> Runner<C> for Task<'_, B> {
 
     ghost laws = { λ t. ran_laws C.Chooser.meaning C.Chooser.laws (B.RuleBook.meaning t.book.now) (B.RuleBook.laws t.book.now) t.start.now };
 
+    fn cell_count(&self) -> usize {
+        self.start.len()
+    }
+
+    fn is_ready(&self, listed: u64) -> bool {
+        is_ready(self.book, self.start, listed)
+    }
+
     fn run(
         &self,
         chooser: &mut C,
@@ -37,6 +46,9 @@ impl<B: RuleBook, C: Chooser> Runner<C> for Task<'_, B> {
         work: &mut [u64],
         sets: &mut [u64],
     ) -> Line {
-        run(self.book, chooser, weights, self.start, listed, work, sets)
+        let Some(line) = run(self.book, chooser, weights, self.start, listed, work, sets) else {
+            unreachable!()
+        };
+        line
     }
 }

@@ -29,7 +29,6 @@ impl<B: RuleBook> Progress<'_, B> {
 
     /// Settles the sets under the listed rules: sweeps until one removes nothing, or a rule empties a cell and weighs more.
     pub fn settle(&mut self) -> Result<(), Emptied>
-        requires { Full self.old.sets.now }
         ensures kept { Kept self.old self.new }
         ensures steps { MatchResult result
             (λ _. Settles (B.meaning self.old.book.now) self.old.rules (state_of self.old) (state_of self.new))
@@ -38,7 +37,7 @@ impl<B: RuleBook> Progress<'_, B> {
             (λ _. OnlySettles (B.meaning self.old.book.now) self.old.rules (state_of self.old) (state_of self.new))
             (λ e. OnlyFails (B.meaning self.old.book.now) self.old.rules e.rule (state_of self.old) (state_of self.new)) }
         ensures law { MatchResult result
-            (λ _. Settled (B.meaning self.old.book.now) self.old.rules (state_of self.old) (state_of self.new))
+            (λ _. Full self.old.sets.now → Settled (B.meaning self.old.book.now) self.old.rules (state_of self.old) (state_of self.new))
             (λ _. Clash (B.meaning self.old.book.now) self.old.rules (state_of self.old) (state_of self.new)) }
         ensures less { total self.new.sets.now ≤ total self.old.sets.now }
     {

@@ -12,16 +12,12 @@ use Rattle.search.proofs.Tries.{ok_says, err_says, try_falls, loop_falls, out_fa
 use Rattle.search.proofs.explore.+attempt_explore.Goals as goal
 use Rattle.search.proofs.explore.+attempt_explore.Goals.{attempt-then-is_ok+else-explore, attempt-else-is_ok}
 
-pub attempt-settle-requires : goal.attempt-settle-requires
-attempt-settle-requires g t c =
-    (subst (λ (x : ℕ). Able (set c.args.progress.now.sets.now c.args.trial.cell x) (length c.args.work.now)) (sym (c.only.ensures.one c.requires.chosen.there.0)) c.requires.able).full
-
 pub attempt-explore-requires : goal.attempt-explore-requires
 attempt-explore-requires g t c κs within =
     let e = c.only.ensures.one c.requires.chosen.there.0 in
     let a = subst (λ (x : ℕ). Able (set c.args.progress.now.sets.now c.args.trial.cell x) (length c.args.work.now)) (sym e) c.requires.able in (
       try_falls c.args.progress.now.sets.now c.settle.new.self.sets.now c.args.trial.cell c.args.trial.place c.only.result t c.decreases c.requires.chosen e c.settle.ensures.less,
-      (within.0, (within.1, able_settled _ a (ok_says _ _ (sym c.if-is_ok.ensures.value) c.settle.ensures.law) refl)),
+      (within.0, (within.1, able_settled _ a (ok_says _ _ (sym c.if-is_ok.ensures.value) c.settle.ensures.law a.full) refl)),
     )
 
 pub attempt-returns-then-explore : goal.attempt-returns-then-explore
@@ -86,11 +82,6 @@ explore-retreat-requires g t c =
       chosen = subst (λ (x : List ℕ). Chosen x c.in-Some.trial.cell c.in-Some.trial.place) (sym e) c.in-Some.ensures.chosen;
     }
 
-pub explore-settle-requires : goal.explore-settle-requires
-explore-settle-requires g t c =
-    let b = ap (λ (x : State). x.sets) c.retreat.ensures.back ∙ ap (λ (x : List ℕ). out_of x c.in-Some.trial.cell c.in-Some.trial.place) c.keep.ensures in
-    (able_out c.retreat.new.progress.sets.now c.tries.invariant.2 c.in-Some.ensures.chosen b).full
-
 pub explore-returns-then-is_err-clause-steps : goal.explore-returns-then-is_err-clause-steps
 explore-returns-then-is_err-clause-steps g t c =
     let q = kept_more c.attempt.ensures.kept c.retreat.ensures.kept in
@@ -116,6 +107,6 @@ explore-tries-preserved g t c =
       λ found y u h. c.tries.invariant.0 found y u (goes_on_with p.choice (c.if-attempt.ensures.failed refl) b
           (before (λ x n. Settles (g.B.RuleBook.meaning x) n (state_of c.retreat.new.progress) (state_of c.settle.new.self)) q (ok_says _ _ c.if-is_err.ensures.negation c.settle.ensures.steps)) (rw (w.book, w.rules) at h)),
       le_of_lt_le c.settle.ensures.less (out_falls _ _ _ _ p.chosen sets) c.tries.invariant.1,
-      able_settled _ a (ok_says _ _ c.if-is_err.ensures.negation c.settle.ensures.law) refl,
+      able_settled _ a (ok_says _ _ c.if-is_err.ensures.negation c.settle.ensures.law a.full) refl,
       kept_more c.tries.invariant.3 w,
     )

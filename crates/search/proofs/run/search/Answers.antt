@@ -8,7 +8,7 @@ pub returns-then-is_err : goal.returns-then-is_err
 returns-then-is_err g c = record { kept = c.settle.ensures.kept; steps = fails (err_says _ _ c.if-is_err.ensures.negation c.settle.ensures.steps).1 }
 
 pub explore-requires : goal.explore-requires
-explore-requires g c = able_settled _ c.requires (ok_says _ _ c.if-is_err.ensures.negation c.settle.ensures.law) refl
+explore-requires g c = able_settled _ c.requires (ok_says _ _ c.if-is_err.ensures.negation c.settle.ensures.law c.requires.full) refl
 
 pub returns : goal.returns
 returns g c =

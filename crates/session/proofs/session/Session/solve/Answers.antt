@@ -1,4 +1,5 @@
 use Rattle.std.proofs.Common.{false, get_or, ap, ◌∙◌, arith}
+use Rattle.std.proofs.lemmas.Bool.{false≢true}
 use Rattle.calls.specs.History.{set_where}
 use Rattle.calls.proofs.Fillings.{few_cells, few_rules, listed}
 use Rattle.session.specs.Calls.{sheet_of}
@@ -13,22 +14,23 @@ set_starts-requires g c =
 pub rules_on-on-requires : goal.rules_on-on-requires
 rules_on-on-requires g c = omega (arith, few_rules (sheet_of g.B.RuleBook.meaning c.args.self.now) c.requires.opens, c.count.ensures)
 
-pub fit-fitted-requires-clause-ready : goal.fit-fitted-requires-clause-ready
-fit-fitted-requires-clause-ready g c =
+pub unreachable-requires : goal.unreachable-requires
+unreachable-requires g c =
     let s = c.args.self.now in
-    table_ready g.B.RuleBook.meaning g.C.Chooser.meaning g.C.Chooser.laws s (g.B.RuleBook.laws s.book) c.requires.opens
-    c.set_starts.ensures (c.rules_on-on.ensures ∙ ap (set_where (λ r. get_or s.table.switches r false)) c.count.ensures)
+    let ready = table_ready g.B.RuleBook.meaning g.C.Chooser.meaning g.C.Chooser.laws s (g.B.RuleBook.laws s.book) c.requires.opens
+    c.set_starts.ensures (c.rules_on-on.ensures ∙ ap (set_where (λ r. get_or s.table.switches r false)) c.count.ensures) in
+    false≢true (c.in_default.ensures.made.1 (record { weighed = omega arith; free = omega (arith, c.requires.work); same = omega arith }, ready, c.requires.log))
 
 pub write_lowest-requires : goal.write_lowest-requires
-write_lowest-requires g c = omega (arith, c.fit-fitted.auto.sets, c.requires.sets, c.requires.filling, few_cells (sheet_of g.B.RuleBook.meaning c.args.self.now) c.requires.opens)
+write_lowest-requires g c = omega (arith, c.fit.auto.sets, c.requires.sets, c.requires.filling, few_cells (sheet_of g.B.RuleBook.meaning c.args.self.now) c.requires.opens)
 
 pub returns-then-is_none : goal.returns-then-is_none
 returns-then-is_none g c =
     let s = c.args.self.now in
     solved_filled g.B.RuleBook.meaning g.C.Chooser.meaning g.C.Chooser.laws s (g.B.RuleBook.laws s.book) c.requires.opens
     c.set_starts.ensures (c.rules_on-on.ensures ∙ ap (set_where (λ r. get_or s.table.switches r false)) c.count.ensures)
-    c.fit-fitted.ensures (c.fit-fitted.auto.sets ∙ c.requires.sets) c.args.filling.now c.write_lowest.new.filling (none_from_test _ c.if-is_none.ensures)
-    (omega (arith, c.write_lowest.auto.filling, c.fit-fitted.auto.sets, c.requires.sets, c.requires.filling, few_cells (sheet_of g.B.RuleBook.meaning s) c.requires.opens))
+    c.in-Some.ensures.logged (c.fit.auto.sets ∙ c.requires.sets) c.args.filling.now c.write_lowest.new.filling (none_from_test _ c.if-is_none.ensures)
+    (omega (arith, c.write_lowest.auto.filling, c.fit.auto.sets, c.requires.sets, c.requires.filling, few_cells (sheet_of g.B.RuleBook.meaning s) c.requires.opens))
     c.write_lowest.ensures.places c.write_lowest.ensures.later
 
 pub returns-else-is_none : goal.returns-else-is_none
@@ -36,4 +38,4 @@ returns-else-is_none g c =
     let s = c.args.self.now in
     solved_clashed g.B.RuleBook.meaning g.C.Chooser.meaning g.C.Chooser.laws s (g.B.RuleBook.laws s.book) c.requires.opens
     c.set_starts.ensures (c.rules_on-on.ensures ∙ ap (set_where (λ r. get_or s.table.switches r false)) c.count.ensures)
-    c.fit-fitted.ensures (c.fit-fitted.auto.sets ∙ c.requires.sets) c.args.filling.now (some_from_test _ c.if-is_none.ensures)
+    c.in-Some.ensures.logged (c.fit.auto.sets ∙ c.requires.sets) c.args.filling.now (some_from_test _ c.if-is_none.ensures)

@@ -36,6 +36,6 @@ returns g c =
       kept = kept_more i.2 f.kept;
       steps = a;
       only = only_settles a;
-      law = settles_law _ _ _ c.args.self.now.suits (g.B.RuleBook.laws c.args.self.now.book.now) refl c.requires a;
+      law = λ full. settles_law _ _ _ c.args.self.now.suits (g.B.RuleBook.laws c.args.self.now.book.now) refl full a;
       less = settles_le _ _ _ c.args.self.now.suits refl a;
     }

@@ -1,5 +1,0 @@
-use Rattle.contents.proofs.Lists.{SoFar}
-use Rattle.contents.proofs.list.read_list.Given as goal
-
-abbrev pub invariant-loop-k : goal.invariant-loop-k
-invariant-loop-k l = SoFar l.content l.initial.numbers l.numbers l.k
