@@ -1,18 +1,25 @@
 //! The text that `replay` prints, from the bytes of a file and of a script.
+ghost use Rattle.std.specs.Prelude.{◌≡◌, ℕ, ◌+◌, ◌^◌, ◌<◌, false, List, ◌++◌, length, take, slice_index_or, MatchOption, IfOk, OnOk, string_bytes};
+ghost use Rattle.sheets.specs.Sheet.{Sheet};
+ghost use Rattle.sheets.specs.Stored.{held, Enough};
+ghost use Rattle.sheet_books.specs.Books.{Holds};
+ghost use Rattle.replaying.specs.Lines.{layer_text, load_line};
+ghost use Rattle.replaying.specs.Replays.{stays, AllStay, TurnedText, Sessions, no_flags, Replays};
+
 use crate::session::push_session;
-use formulas::node::Node;
 use load::load::load;
 use network::turned::Turned;
-use reader::formula::{Formula, NODES};
-use rows::rule::RowsRule;
 use script::line::{Line, lines};
 use sheet_books::{books, lengths};
 use sheets::fault::{Layer, LoadFault};
-use sheets::stores::{CELLS, Extent, NUMBERS, PLACES, RULES, Stores};
+use sheets::stores::{Extent, Stores};
 use std::alloc::{AllocError, Global};
+use storage::Storage;
 
 /// The word for a layer of a file.
-fn layer_word(layer: Layer) -> &'static str {
+fn layer_word(layer: Layer) -> &'static str
+    ensures { result.now ≡ layer_text layer }
+{
     match layer {
         Layer::Field => "field",
         Layer::Rule => "rule",
@@ -21,43 +28,74 @@ fn layer_word(layer: Layer) -> &'static str {
 }
 
 /// The line of a fault.
-fn push_load(out: &mut String, fault: LoadFault) -> Result<(), AllocError> {
+#[tactic(auto, using(text::proofs::Pieces::pieces))]
+fn push_load(out: &mut String, fault: LoadFault) -> Result<(), AllocError>
+    ensures { OnOk result (string_bytes out.new ≡ string_bytes out.old ++ load_line fault) }
+{
     let layer = layer_word(fault.layer());
     writeln!(out, "load {} {layer} {}", fault.number(), fault.offset())
 }
 
-/// The sessions of a script on the sheet in the stores.
+/// The place of the first line that begins a session.
+fn next_turn(lines: &[Line]) -> Option<usize>
+    ensures { MatchOption result (AllStay lines.now) (λ k. (k < length lines.now) × AllStay (take k lines.now) × (stays (slice_index_or lines.now k Line.Blank) ≡ false)) }
+{
+    for (place, line) in lines.iter().enumerate() {
+        if let Line::Turn(_) = line {
+            return Some(place);
+        }
+    }
+    None
+}
+
+/// The flags of the rules that a line turns.
+fn flags_of(line: &Line) -> [bool; 64]
+    ensures { stays line.now ≡ false → line.now ≡ Line.Turn result }
+{
+    match line {
+        Line::Turn(flags) => *flags,
+        Line::Blank | Line::Call(_) | Line::NotUnderstood => [false; 64],
+    }
+}
+
+/// The text of one session on the sheet in the stores, with the flagged rules turned round.
+fn push_turned(
+    heap: Global,
+    out: &mut String,
+    stores: &Stores<'_>,
+    extent: Extent,
+    flags: [bool; 64],
+    first: usize,
+    lines: &[Line],
+) -> Result<(), AllocError>
+    requires { first + length lines.now < 2 ^ 64 }
+    ensures { OnOk result ((s : Sheet) → Holds (held stores.now) extent s → ((t : List ℕ) × (string_bytes out.new ≡ string_bytes out.old ++ t) × TurnedText s flags first lines.now t)) }
+{
+    let book = Turned::new(books(stores, extent), flags);
+    push_session(heap, out, lengths(stores, extent), book, first, lines)
+}
+
+/// The text of a script's sessions on the sheet in the stores.
 fn push_sessions(
     heap: Global,
     out: &mut String,
     stores: &Stores<'_>,
     extent: Extent,
     lines: &[Line],
-) -> Result<(), AllocError> {
+) -> Result<(), AllocError>
+    ensures { OnOk result ((s : Sheet) → Holds (held stores.now) extent s → ((t : List ℕ) × (string_bytes out.new ≡ string_bytes out.old ++ t) × Sessions s no_flags 1 lines.now t)) }
+{
     let mut flags = [false; 64];
     let mut first = 1usize;
     let mut rest = lines;
-    loop {
-        let count = rest
-            .iter()
-            .position(|line| matches!(line, Line::Turn(_)))
-            .unwrap_or(rest.len());
-        let book = Turned::new(books(stores, extent), flags);
-        push_session(
-            heap,
-            out,
-            lengths(stores, extent),
-            book,
-            first,
-            &rest[..count],
-        )?;
-        let Some((Line::Turn(next), later)) = rest[count..].split_first() else {
-            return Ok(());
-        };
-        flags = *next;
-        first = first.saturating_add(count).saturating_add(1);
-        rest = later;
+    while let Some(count) = next_turn(rest) {
+        push_turned(heap, out, stores, extent, flags, first, &rest[..count])?;
+        let turn = flags_of(&rest[count]);
+        flags = turn;
+        first += count + 1;
+        rest = &rest[count + 1..];
     }
+    push_turned(heap, out, stores, extent, flags, first, rest)
 }
 
 /// The text for a file, read into these stores, and a script.
@@ -66,7 +104,10 @@ fn replay_in(
     file: &[u8],
     stores: &mut Stores<'_>,
     script: &[u8],
-) -> Result<String, AllocError> {
+) -> Result<String, AllocError>
+    requires { Enough (held stores.old) }
+    ensures { IfOk result (λ v. Replays file.now script.now (string_bytes v)) }
+{
     let mut out = String::new(heap);
     match load(file, stores) {
         Ok(extent) => {
@@ -78,21 +119,11 @@ fn replay_in(
     Ok(out)
 }
 
-/// The text that `replay` prints for a file and a script.
-pub fn replay(heap: Global, file: &[u8], script: &[u8]) -> Result<String, AllocError> {
-    let mut lengths = vec![in heap; 0u8; CELLS]?;
-    let mut numbers = vec![in heap; 0i32; NUMBERS]?;
-    let mut rules = vec![in heap; RowsRule::default(); RULES]?;
-    let mut places = vec![in heap; 0u8; PLACES]?;
-    let mut formulas = vec![in heap; Formula::default(); RULES]?;
-    let mut nodes = vec![in heap; Node::Free; NODES]?;
-    let mut stores = Stores {
-        lengths: &mut lengths,
-        numbers: &mut numbers,
-        rules: &mut rules,
-        places: &mut places,
-        formulas: &mut formulas,
-        nodes: &mut nodes,
-    };
-    replay_in(heap, file, &mut stores, script)
+/// The text that `replay` prints for a file and a script: the line of the file's first fault; or, for each session of the script, whether it is open and
+/// the answers to its calls, as promised for any sequence of calls.
+pub fn replay(heap: Global, file: &[u8], script: &[u8]) -> Result<String, AllocError>
+    ensures { IfOk result (λ v. Replays file.now script.now (string_bytes v)) }
+{
+    let mut storage = Storage::new(heap)?;
+    replay_in(heap, file, &mut storage.lend(), script)
 }
