@@ -1,5 +1,5 @@
 -- The text for a file that is refused by stores of the published sizes. Assumes nothing.
-use Rattle.std.proofs.Common.{◌≡◌, ℕ, ◌<◌, ◌≤◌, List, length, sym, subst, ⊎_elim}
+use Rattle.std.proofs.Common.{ℕ, List, length, sym, subst, ⊎_elim}
 use Rattle.std.proofs.lemmas.Bool.{cases_lt}
 use Rattle.sheets.specs.declared.fault.LoadFault.{LoadFault}
 use Rattle.sheets.specs.Stored.{Contents, Enough}

@@ -1,6 +1,5 @@
 -- What is told of some lines, line by line, and session by session. Assumes nothing.
-use Rattle.std.proofs.Common.{◌≡◌, ◌≢◌, ℕ, ◌+◌, ◌<◌, ◌≤◌, Bool, true, false, List, [], ◌∷◌, ◌++◌, map, length, get_or, take, drop, Some, None, Option, sym, refl, ap, ◌∙◌, subst, append_assoc, append-nil, add-one, arith}
-use Rattle.std.specs.List.{AllByRecursion}
+use Rattle.std.proofs.Common.{◌≡◌, ℕ, ◌+◌, ◌<◌, ◌≤◌, Bool, true, false, List, [], ◌∷◌, ◌++◌, length, get_or, take, drop, sym, refl, ap, ◌∙◌, subst, append_assoc, append-nil, add-one, arith}
 use Rattle.std.proofs.Math.Seq.{drop-cons}
 use Rattle.std.proofs.lemmas.List.{take_more, take_all, drop_all, length-take-le, take-append-drop}
 use Rattle.calls.specs.declared.call.Call.{Call}
@@ -10,7 +9,7 @@ use Rattle.script.specs.declared.line.Line.TheVariants.{Blank, Call as CallLine,
 use Rattle.sheets.specs.Sheet.{Sheet as Stated}
 use Rattle.replaying.specs.Lines.{not_understood, answer_text}
 use Rattle.replaying.specs.Sessions.{told}
-use Rattle.replaying.specs.Replays.{stays, AllStay, TurnedText, Sessions, last, next}
+use Rattle.replaying.specs.Replays.{stays, AllStay, TurnedText, Sessions, next}
 
 -- a line that is not understood, and a call that is answered
 pub told_unknown : (cells n : ℕ) (l : Line) (ls : List Line) (after : List Step) (a b : List ℕ) → l ≡ NotUnderstood → b ≡ a ++ not_understood n → b ++ told cells (n + 1) ls after ≡ a ++ told cells n (l ∷ ls) after

@@ -1,5 +1,5 @@
 -- What the lines of a script say. Assumes nothing.
-use Rattle.std.specs.Prelude.{◌≡◌, ℕ, Bool, true, false, List, [], ◌∷◌, replicate, codes, fold, slice_set, Some, None, Option, MatchOption, ◌==◌}
+use Rattle.std.specs.Prelude.{ℕ, Bool, true, false, List, [], ◌∷◌, replicate, codes, fold, slice_set, Option, MatchOption, ◌==◌}
 use Rattle.std.specs.List.{slice_split, AllByRecursion}
 use Rattle.calls.specs.declared.call.Call.TheVariants.{Pin, Free, Switch, Fit}
 use Rattle.script.specs.declared.line.Line.{Line}

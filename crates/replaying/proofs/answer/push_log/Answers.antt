@@ -1,6 +1,4 @@
-use Rattle.std.proofs.Common.{◌∷◌, string_bytes, refl, rules}
-use Rattle.formulas.specs.Tree.{numeral}
-use Rattle.text.proofs.Decimals.{decimal_numeral}
+use Rattle.std.proofs.Common.{string_bytes, refl}
 use Rattle.text.proofs.Pieces.{joined_more}
 use Rattle.replaying.specs.Lines.{log_line}
 use Rattle.replaying.proofs.answer.push_log.Goals as goal

@@ -1,7 +1,6 @@
-use Rattle.std.proofs.Common.{◌≡◌, ◌∷◌, ◌++◌, take, string_bytes}
+use Rattle.std.proofs.Common.{◌≡◌, ◌++◌, take, string_bytes}
 use Rattle.std.specs.List.{flat_map}
-use Rattle.formulas.specs.Tree.{numeral}
-use Rattle.replaying.specs.Lines.{byte_text, log_line}
+use Rattle.replaying.specs.Lines.{byte_text}
 use Rattle.replaying.proofs.answer.push_set.Given as goal
 
 abbrev pub invariant-loop-byte : goal.invariant-loop-byte

@@ -1,4 +1,4 @@
-use Rattle.std.proofs.Common.{◌≡◌, ◌++◌, string_bytes, ap, add-zero, refl, arith}
+use Rattle.std.proofs.Common.{◌++◌, string_bytes, ap, add-zero, refl, arith}
 use Rattle.replaying.specs.Sessions.{told}
 use Rattle.replaying.proofs.Telling.{told_more, told_end}
 use Rattle.replaying.proofs.lines.push_lines.Goals as goal

@@ -1,4 +1,4 @@
-use Rattle.std.proofs.Common.{◌≡◌, take, arith}
+use Rattle.std.proofs.Common.{arith}
 use Rattle.replaying.proofs.Telling.{stay_more, stay_all, turn_found}
 use Rattle.replaying.proofs.replay.next_turn.Goals as goal
 

@@ -1,4 +1,4 @@
-use Rattle.std.proofs.Common.{◌≡◌, List, [], ◌++◌, ◌∷◌, sym, subst}
+use Rattle.std.proofs.Common.{[], ◌++◌, ◌∷◌, sym, subst}
 use Rattle.replaying.specs.Sessions.{Prepared}
 use Rattle.replaying.proofs.Preparing.{prepared_skip, prepared_push}
 use Rattle.replaying.proofs.steps.push_step.Goals as goal

@@ -1,4 +1,3 @@
-use Rattle.std.proofs.Common.{◌≡◌, true, false, refl, sym, ◌∙◌, arith, rules}
 use Rattle.script.proofs.Reading.{free_line}
 use Rattle.script.proofs.line.free.Goals as goal
 

@@ -1,4 +1,4 @@
-use Rattle.std.proofs.Common.{◌≡◌, ◌+◌, ◌∷◌, ◌++◌, [], map, take, sym, refl, ap, ◌∙◌, subst, arith, rules}
+use Rattle.std.proofs.Common.{◌+◌, [], map, take, sym, subst, arith}
 use Rattle.script.specs.Script.{AreRead, none}
 use Rattle.script.proofs.Reading.{lines_more}
 use Rattle.script.proofs.line.lines.Goals as goal

@@ -1,4 +1,3 @@
-use Rattle.std.proofs.Common.{◌≡◌, true, false, refl, sym, ◌∙◌, arith, rules}
 use Rattle.script.proofs.Reading.{pin_line}
 use Rattle.script.proofs.line.pin.Goals as goal
 

@@ -1,5 +1,4 @@
-use Rattle.std.proofs.Common.{◌≡◌, ◌∷◌, [], map, length, sym, refl, ap, ◌∙◌}
-use Rattle.script.specs.Words.{words_of}
+use Rattle.std.proofs.Common.{map, length, sym, ap, ◌∙◌}
 use Rattle.script.specs.Script.{ReadAs}
 use Rattle.script.specs.declared.line.Line.TheVariants.{Blank}
 use Rattle.script.proofs.Reading.{read_line, read_blank, reads_once}
