@@ -1,7 +1,6 @@
 -- The text of a Fit on a sheet that was read into the stores, and the text for its file. Assumes nothing.
-use Rattle.std.proofs.Common.{◌≡◌, ℕ, ◌+◌, ◌-◌, ◌*◌, ◌<◌, ◌≤◌, List, [], map, length, get_or, replicate, ℤ, pos, sym, ap, ◌∙◌, subst, ⊎_elim, arith}
+use Rattle.std.proofs.Common.{◌≡◌, ℕ, ◌+◌, ◌-◌, ◌*◌, ◌<◌, ◌≤◌, List, [], map, length, get_or, replicate, ℤ, pos, Err, sym, ap, ◌∙◌, subst, arith}
 use lib.ListN.{length-map}
-use Rattle.std.proofs.lemmas.Bool.{cases_lt}
 use Rattle.std.proofs.lemmas.Option.{none-some}
 use Rattle.network.specs.Book.{BookMeaning}
 use Rattle.choosers.specs.Choice.{Machine}
@@ -11,12 +10,12 @@ use Rattle.sheets.specs.declared.fault.LoadFault.{LoadFault}
 use Rattle.sheets.specs.declared.stores.Extent.{Extent}
 use Rattle.sheets.specs.Faults.{number as fault_number, offset as fault_offset}
 use Rattle.sheets.specs.Sheet.{Sheet as Stated, GoodList}
-use Rattle.sheets.specs.Stored.{Contents, Enough}
+use Rattle.sheets.specs.Stored.{Contents}
 use Rattle.sheets.specs.Meaning.{Means, number_at}
 use Rattle.sheet_books.specs.Books.{Holds}
 use Rattle.sheet_books.proofs.Parts.{each_map}
 use Rattle.sheet_books.proofs.StoredNumbers.{spread, number_there, length_there}
-use Rattle.load.specs.Load.{ReadSheet, Refused, unsized, faulty as refused}
+use Rattle.storage.specs.Outcome.{Outcome, too_long as long, faulty as refused}
 use Rattle.text.specs.Text.{fault_text}
 use Rattle.answers.specs.Answers.{usual, usual_start, FitText, unopened, fits, clashes, SheetText, Answers, too_long, faulty}
 use Rattle.answers.proofs.Telling.{fits_same}
@@ -53,13 +52,7 @@ module _ (h : Contents) (e : Extent) (s : Stated) (holds : Holds h e s) where
         (subst (λ x. FitText usual usual_start (sheet x book) (λ c v. get_or h.numbers (64 * c + v) (pos 0)) t) is text);
   }
 
--- a sheet that was read stands in the stores
-pub holds_read : (file : List ℕ) (before after : Contents) (e : Extent) (r : ReadSheet file before after e) → Holds after e r.sheet
-holds_read file before after e r = record { good = r.read.good; before = before; held = r.stores; takes = r.extent }
-
--- the text for a file that is refused by stores of the published sizes
-pub refused_text : (file : List ℕ) (before after : Contents) (e : LoadFault) → Enough before → Refused file before after e → Answers file (fault_text (fault_number e) (fault_offset e))
-refused_text file before after e enough (unsized n is same) =
-    subst (λ x. Answers file (fault_text (fault_number x) (fault_offset x))) (sym is)
-    (⊎_elim (λ l. too_long l) (λ l. absurd (n (record { short = l; enough = enough }))) (cases_lt 32768 (length file)))
-refused_text file before after e enough (refused sized with same) = faulty sized.short with
+-- the text for a file that is refused
+pub refused_text : (file : List ℕ) (e : LoadFault) → Outcome file (Err e) → Answers file (fault_text (fault_number e) (fault_offset e))
+refused_text file e (long l) = too_long l
+refused_text file e (refused l with) = faulty l with

@@ -1,1 +1,2 @@
 pub mod Blank
+pub mod Outcomes

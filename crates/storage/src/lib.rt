@@ -1,4 +1,4 @@
-//! The stores that a sheet is read into, owned: a program makes them once and lends them. Uses `formulas`, `reader`, `rows` and `sheets`.
+//! The stores that a sheet is read into, owned: a program makes them once and lends them. And what reading a file into them comes to. Uses `sheets`, `load`, `sheet_books` and what stores hold of `formulas`, `reader` and `rows`.
 #![tactic(auto)]
 
 ghost use Rattle.std.specs.Prelude.{◌≡◌, IfOk};

@@ -3,7 +3,8 @@ use Rattle.sheets.specs.Faults.{number, offset}
 use Rattle.sheets.specs.Stored.{held}
 use Rattle.text.specs.Text.{fault_text}
 use Rattle.answers.specs.Answers.{Answers, read}
-use Rattle.answers.proofs.Stating.{holds_read, refused_text}
+use Rattle.storage.proofs.Outcomes.{holds_read, is_refused}
+use Rattle.answers.proofs.Stating.{refused_text}
 use Rattle.answers.proofs.answer.answer_in.Goals as goal
 use Rattle.answers.proofs.answer.answer_in.Goals.{in-Ok+in_ok-push_sheet-in-Ok, in-Err+in_ok-push_fault-in-Err}
 
@@ -20,5 +21,5 @@ returns c =
           let is : string_bytes c.match-load.out ≡ fault_text (number e) (offset e) =
           ap string_bytes w.out-is ∙ w.in_ok-push_fault-in-Err.ensures ∙ ap (λ l. l ++ fault_text w.number.result w.offset.result) c.new-out.ensures.bytes
           ∙ ap (λ n. fault_text n w.offset.result) w.number.ensures ∙ ap (fault_text (number e)) w.offset.ensures in
-          subst (Answers c.args.file.now) (sym is) (refused_text c.args.file.now (held c.args.stores.now) (held c.load.new.stores) e c.requires w.in-Err.ensures.loads)
+          subst (Answers c.args.file.now) (sym is) (refused_text c.args.file.now e (is_refused c.args.file.now (held c.args.stores.now) (held c.load.new.stores) e c.requires w.in-Err.ensures.loads))
     ]
