@@ -40,3 +40,20 @@ impl Sample {
         Ok(read(self.text(), cells, &mut nodes, &mut used).err())
     }
 }
+
+#[cfg(test)]
+mod tests {
+    use super::Sample;
+    use formulas::fault::{Flaw, FormulaFault};
+    use std::test::Fail;
+
+    #[test]
+    fn a_leading_zero(rt: HostRuntime) -> Result<(), Fail> {
+        let fault = FormulaFault {
+            flaw: Flaw::Grammar,
+            offset: 4,
+        };
+        assert!(rt; Sample::LeadingZero.fault(rt.alloc(), 3)? == Some(fault));
+        Ok(())
+    }
+}
