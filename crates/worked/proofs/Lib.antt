@@ -2,8 +2,9 @@ pub mod Evaluation
 pub mod Sound
 pub mod Searching
 pub mod Fits
-pub mod Playing
+pub mod Evaluating
 pub mod Showing
 pub mod Results
 pub mod Telling
 pub mod Sampling
+pub mod Held

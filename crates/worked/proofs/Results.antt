@@ -16,7 +16,7 @@ use Rattle.worked.specs.declared.example.Example.TheVariants.{Opposed, LoneRule,
 use Rattle.worked.specs.Shows.{Show}
 use Rattle.worked.specs.Examples.{lists, sheet_of, calls_of, shown_of, weights_of, Worked}
 use Rattle.worked.proofs.Sound.{All, Agree}
-use Rattle.worked.proofs.Playing.{Played, plays, opens?}
+use Rattle.worked.proofs.Evaluating.{Played, plays, opens?}
 use Rattle.worked.proofs.Showing.{opens_sound, plays_sound}
 
 -- the book that has the sheet's rules as they are stated

@@ -1,10 +1,11 @@
 -- The faults of the worked formulas, and the rows that one permits. Assumes nothing.
-use Rattle.std.proofs.Common.{◌≡◌, ℕ, ◌+◌, ◌^◌, ◌<◌, ◌≤◌, true, false, not, List, length, replicate, ℤ, pos, negsuc, None, Ok, Err, Result, codes, sym, refl, ap, subst, inl, inr, arith}
+use Rattle.std.proofs.Common.{◌≡◌, ℕ, ◌^◌, ◌<◌, ◌≤◌, true, false, not, List, length, replicate, ℤ, pos, negsuc, None, Ok, Err, Result, codes, sym, refl, ap, subst, inl, inr, arith}
 use Rattle.std.specs.Prelude.{is_ok}
 use Rattle.std.specs.Result.{result_err}
 use Rattle.std.proofs.lemmas.Bool.{and_right, eq-eqb, false≢true}
 use Rattle.formulas.specs.declared.fault.Flaw.TheVariants.{Grammar, Cells}
-use Rattle.formulas.specs.declared.fault.FormulaFault.{FormulaFault}
+use Rattle.formulas.specs.declared.node.Node.{Node}
+use Rattle.reader.specs.declared.unread.Unread.{Unread}
 use Rattle.formulas.specs.declared.node.Relation.TheVariants.{Equal, NotEqual}
 use Rattle.formulas.specs.Tree.{Condition, compares, numeral, side_text, relation_text, cells_of}
 use Rattle.formulas.specs.Truth.{truth, same, worth}
@@ -17,12 +18,12 @@ use Rattle.formulas.proofs.Awaits.{await_start, right_side}
 use Rattle.formulas.proofs.Tokens.{digits_number, leading_outside}
 use Rattle.formulas.proofs.Exact.{spans_whole, at_end}
 use Rattle.reader.specs.declared.formula.Formula.{Formula}
-use Rattle.reader.specs.Formula.{Decided}
+use Rattle.reader.specs.Formula.{Fits, Decided}
 use Rattle.sheets.specs.Meaning.{formula_rule, listed, numbers_at}
 use Rattle.worked.specs.declared.sample.Sample.{Sample}
 use Rattle.worked.specs.declared.sample.Sample.TheVariants.{NoCell, LeadingZero, UnlikeItself}
 use Rattle.worked.specs.Examples.{cell, number}
-use Rattle.worked.specs.Samples.{bytes_of, fault_of, PermitsNone}
+use Rattle.worked.specs.Samples.{bytes_of, unread_of, PermitsNone}
 
 one_is_one : Condition
 one_is_one = compares (number 1) Equal (number 1)
@@ -70,15 +71,18 @@ short NoCell = omega arith
 short LeadingZero = omega arith
 short UnlikeItself = omega arith
 
--- the bytes of each fit a store of nodes
-pub room : (x : Sample) (s : List ℕ) (n : ℕ) → s ≡ bytes_of x → n ≡ 32768 → 0 + length s ≤ n
-room x s n e f = omega (arith, short x, ap length e)
+-- a store of nodes can take the bytes of each
+fits : (x : Sample) (s : List ℕ) (nodes : List Node) → s ≡ bytes_of x → length nodes ≡ 32768 → Fits s nodes 0
+fits x s nodes e f = record { few = omega (arith, f); room = omega (arith, short x, ap length e, f) }
 
-no_error : (r : Result Formula FormulaFault) → is_ok r ≡ true → result_err r ≡ None
+no_error : (r : Result Formula Unread) → is_ok r ≡ true → result_err r ≡ None
 no_error (Ok v) e = refl
 no_error (Err v) e = absurd (false≢true e)
 
-pub faults : (x : Sample) (cells : ℕ) (s : List ℕ) (r : Result Formula FormulaFault) → cells < 2 ^ 8 → s ≡ bytes_of x → Decided cells s r → 1 ≤ cells → result_err r ≡ fault_of x
-faults NoCell cells s r l e d some = ap result_err (d.refuses Cells 0 (subst (λ t. First cells t Cells 0) (sym e) (first_no_cell cells (omega arith))))
-faults LeadingZero cells s r l e d some = ap result_err (d.refuses Grammar 4 (subst (λ t. First cells t Grammar 4) (sym e) (first_leading_zero cells some (omega arith))))
-faults UnlikeItself cells s r l e d some = no_error r (d.accepts unlike (subst (λ t. Accepted cells t unlike) (sym e) (accepted_unlike cells some)))
+pub unread : (x : Sample) (cells : ℕ) (s : List ℕ) (nodes : List Node) (r : Result Formula Unread) → cells < 2 ^ 8 → s ≡ bytes_of x → length nodes ≡ 32768
+    → Decided cells s nodes 0 r → 1 ≤ cells → result_err r ≡ unread_of x
+unread NoCell cells s nodes r l e f d some = ap result_err (d.refuses Cells 0 (fits NoCell s nodes e f) (subst (λ t. First cells t Cells 0) (sym e) (first_no_cell cells (omega arith))))
+unread LeadingZero cells s nodes r l e f d some =
+    ap result_err (d.refuses Grammar 4 (fits LeadingZero s nodes e f) (subst (λ t. First cells t Grammar 4) (sym e) (first_leading_zero cells some (omega arith))))
+unread UnlikeItself cells s nodes r l e f d some =
+    no_error r (d.accepts unlike (fits UnlikeItself s nodes e f) (subst (λ t. Accepted cells t unlike) (sym e) (accepted_unlike cells some)))

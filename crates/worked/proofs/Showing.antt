@@ -33,7 +33,7 @@ use Rattle.worked.proofs.Evaluation.{then, Once, same_list, run, fit}
 use Rattle.worked.proofs.Sound.{All, then_all, all_map, Agree, same_true}
 use Rattle.worked.proofs.Searching.{RunsOnce, run_sound}
 use Rattle.worked.proofs.Fits.{Lists, Fitted as FittedAs, fit_sound}
-use Rattle.worked.proofs.Playing.{all?, singles, Doing, Played, show_fit, allowed?, opens?, doing, do_fit, do_call, made, add_shown, plays}
+use Rattle.worked.proofs.Evaluating.{all?, singles, Doing, Played, show_fit, allowed?, opens?, doing, do_fit, do_call, made, add_shown, plays}
 
 -- ---- tests
 all_at : (p : ℕ → Bool) (n k : ℕ) → all? p n ≡ true → k < n → p k ≡ true

@@ -25,7 +25,7 @@ use Rattle.worked.specs.declared.example.Example.TheVariants.{Opposed, LoneRule,
 use Rattle.worked.specs.Shows.{Shown, done, filled, clashed}
 use Rattle.worked.specs.Examples.{lists, cell, number, opposed, with_no_row, sheet_of, text_of}
 use Rattle.worked.proofs.Sound.{All, all_map, Agree}
-use Rattle.worked.proofs.Playing.{Doing, do_fit, opens?}
+use Rattle.worked.proofs.Evaluating.{Doing, do_fit, opens?}
 use Rattle.worked.proofs.Showing.{opens_sound, FitShows, FitDone, fit_done}
 use Rattle.worked.proofs.Results.{Usual, book_of, agrees, opens}
 
@@ -150,7 +150,7 @@ good_opposed = record {
   formulas = (good_pair 0 1 Less (omega arith) (omega arith) refl, (good_pair 1 0 Less (omega arith) (omega arith) refl, (good_number 2 2 Equal (omega arith) (omega arith), tt)));
 }
 
-good : (x : Example) → Good (sheet_of x)
+pub good : (x : Example) → Good (sheet_of x)
 good Opposed = good_opposed
 good LoneRule = record {
   few_cells = omega arith;
@@ -163,7 +163,7 @@ good NothingPermitted = good_no_row Permitted
 good NothingForbidden = good_no_row Forbidden
 good Freed = good_opposed
 
-short : (x : Example) → length (file_of (sheet_of x)) < 32768
+pub short : (x : Example) → length (file_of (sheet_of x)) < 32768
 unfolding numeral
 short Opposed = omega arith
 short LoneRule = omega arith

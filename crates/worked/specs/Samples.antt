@@ -1,7 +1,8 @@
 -- The worked formulas, and what is to come of them. Assumes nothing.
 use Rattle.std.specs.Prelude.{◌≡◌, ℕ, false, List, ℤ, Some, None, Option, codes}
 use Rattle.formulas.specs.declared.fault.Flaw.TheVariants.{Grammar, Cells}
-use Rattle.formulas.specs.declared.fault.FormulaFault.{FormulaFault}
+use Rattle.reader.specs.declared.unread.Unread.{Unread}
+use Rattle.reader.specs.declared.unread.Unread.TheVariants.{Fault}
 use Rattle.formulas.specs.Tree.{Condition, text}
 use Rattle.sheets.specs.Meaning.{formula_rule}
 use Rattle.worked.specs.declared.sample.Sample.{Sample}
@@ -13,11 +14,11 @@ bytes_of NoCell = codes "1=1"
 bytes_of LeadingZero = codes "C0=07"
 bytes_of UnlikeItself = codes "C0<>C0"
 
--- the fault of each: 9 at the first byte, 6 at the fifth, and none
-abbrev pub fault_of : Sample → Option FormulaFault
-fault_of NoCell = Some (record { flaw = Cells; offset = 0 })
-fault_of LeadingZero = Some (record { flaw = Grammar; offset = 4 })
-fault_of UnlikeItself = None
+-- why each is not read: fault 9 at the first byte, fault 6 at the fifth; and the last is
+abbrev pub unread_of : Sample → Option Unread
+unread_of NoCell = Some (Fault (record { flaw = Cells; offset = 0 }))
+unread_of LeadingZero = Some (Fault (record { flaw = Grammar; offset = 4 }))
+unread_of UnlikeItself = None
 
 -- the formula of this text permits no row, whatever the lists of the cells are
 abbrev pub PermitsNone : List ℕ → Type 0

@@ -1,42 +1,8 @@
-//! Worked sheets, small enough to follow by hand, and what calls on them come to. Uses `network`, `choosers`, `calls`, `session` and `play`.
+//! Worked sheets, small enough to follow by hand, and what calls on them come to: which lines, cores, fillings and weights.
+//! Uses `answers`, `load`, `sheet_books` and `play`, and what these are made of.
 #![tactic(auto)]
 
-ghost use Rattle.std.specs.Prelude.{◌≡◌, List, [], IfOk, string_bytes};
-ghost use Rattle.calls.specs.Sheet.{sheet};
-ghost use Rattle.calls.specs.Runs.{fresh, PlaysByRuns};
-ghost use Rattle.session.specs.Calls.{lasting_of};
-ghost use Rattle.answers.specs.Answers.{usual, usual_start};
-ghost use Rattle.worked.specs.declared.example.Example.{Example};
-ghost use Rattle.worked.specs.Examples.{Worked, text_of};
-
 pub mod example;
+pub mod playing;
 pub mod sample;
-
-use crate::example::Example;
-use answers::answer::answer;
-use calls::step::Step;
-use choosers::last_conflict::LastConflict;
-use choosers::weighted::Weighted;
-use network::book::RuleBook;
-use play::play;
-use session::session::Session;
-use std::alloc::{AllocError, Global};
-
-/// Plays calls on a session just made, under last conflict over weighted: by runs of that chooser, and on each worked sheet as was worked out.
-pub fn play_usual<'a, B: RuleBook>(
-    lengths: &'a [u8],
-    book: B,
-    steps: &mut [Step],
-) -> Session<'a, B, LastConflict<Weighted>>
-    ensures runs { PlaysByRuns usual (sheet lengths.now (B.RuleBook.meaning book)) [] (fresh usual_start) steps.old steps.new (lasting_of result) }
-    ensures worked { (x : Example) → Worked x lengths.now (B.RuleBook.meaning book) steps.old steps.new result.table.weights }
-{
-    play(lengths, book, LastConflict::new(Weighted), steps)
-}
-
-/// The text that `fit` prints for a worked sheet.
-pub fn fit_text(heap: Global, example: Example) -> Result<String, AllocError>
-    ensures { IfOk result (λ v. string_bytes v ≡ text_of example) }
-{
-    answer(heap, example.file())
-}
+pub mod usual;

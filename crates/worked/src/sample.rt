@@ -1,10 +1,10 @@
 //! The worked formulas.
 ghost use Rattle.std.specs.Prelude.{◌≡◌, ◌≤◌, IfOk};
-ghost use Rattle.worked.specs.Samples.{bytes_of, fault_of, PermitsNone};
+ghost use Rattle.worked.specs.Samples.{bytes_of, unread_of, PermitsNone};
 
-use formulas::fault::FormulaFault;
 use formulas::node::Node;
 use reader::formula::{NODES, read};
+use reader::unread::Unread;
 use std::alloc::{AllocError, Global};
 
 /// A formula, or what is not quite one.
@@ -31,12 +31,30 @@ impl Sample {
         }
     }
 
-    /// Its fault, if it has one, where it is read as a formula on the first `cells` cells.
-    pub fn fault(self, heap: Global, cells: u8) -> Result<Option<FormulaFault>, AllocError>
-        ensures { IfOk result (λ o. 1 ≤ cells → o ≡ fault_of self) }
+    /// Why it is not read as a formula on the first `cells` cells, if it is not.
+    pub fn unread(self, heap: Global, cells: u8) -> Result<Option<Unread>, AllocError>
+        ensures { IfOk result (λ o. 1 ≤ cells → o ≡ unread_of self) }
     {
         let mut nodes = vec![in heap; Node::Free; NODES]?;
         let mut used = 0;
         Ok(read(self.text(), cells, &mut nodes, &mut used).err())
+    }
+}
+
+#[cfg(test)]
+mod tests {
+    use super::Sample;
+    use formulas::fault::{Flaw, FormulaFault};
+    use reader::unread::Unread;
+    use std::test::Fail;
+
+    #[test]
+    fn a_leading_zero(rt: HostRuntime) -> Result<(), Fail> {
+        let fault = FormulaFault {
+            flaw: Flaw::Grammar,
+            offset: 4,
+        };
+        assert!(rt; Sample::LeadingZero.unread(rt.alloc(), 3)? == Some(Unread::Fault(fault)));
+        Ok(())
     }
 }

@@ -1,6 +1,6 @@
 use Rattle.std.proofs.Common.{◌≡◌, ◌++◌, string_bytes, sym, ap, ◌∙◌, subst}
 use Rattle.sheets.specs.Stored.{held}
-use Rattle.answers.proofs.Stating.{holds_read}
+use Rattle.storage.proofs.Outcomes.{holds_read}
 use Rattle.script.specs.Script.{IsScript}
 use Rattle.replaying.specs.Lines.{load_line}
 use Rattle.replaying.specs.Replays.{Replays, read}

@@ -3,7 +3,7 @@ use Rattle.std.proofs.Common.{string_bytes, subst}
 use Rattle.std.proofs.lemmas.Result.{IfOk-weaker}
 use Rattle.answers.specs.Answers.{Answers}
 use Rattle.worked.proofs.Telling.{answers_worked}
-use Rattle.worked.proofs.fit_text.Goals as goal
+use Rattle.worked.proofs.example.Example.text.Goals as goal
 
 pub returns : goal.returns
-returns c = IfOk-weaker c.answer.result _ _ (λ v p. answers_worked c.args.example (string_bytes v) (subst (λ f. Answers f (string_bytes v)) c.file.ensures p)) c.answer.ensures
+returns c = IfOk-weaker c.answer.result _ _ (λ v p. answers_worked c.args.self (string_bytes v) (subst (λ f. Answers f (string_bytes v)) c.file.ensures p)) c.answer.ensures

@@ -1,0 +1,7 @@
+-- Each call adds the step that makes it.
+use Rattle.worked.proofs.Held.{make_at}
+use Rattle.worked.proofs.playing.steps.Goals as goal
+
+pub loop-call-preserved : goal.loop-call-preserved
+loop-call-preserved c =
+    make_at c.args.calls.now c.loop-call.steps.items c.push.new.self.items c.loop-call.call-index _ c.in_ok-step.field-0 c.loop-call-test.true c.loop-call.invariant c.in_ok-step.ensures c.in_ok-push.ensures.items
