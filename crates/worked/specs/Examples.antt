@@ -1,5 +1,6 @@
 -- The worked sheets, and what is to come of them. Assumes nothing.
 use Rattle.std.specs.Prelude.{◌≡◌, ℕ, false, List, [], ◌∷◌, map, length, take, ℤ, pos, codes}
+use Rattle.bits.specs.Sets.{set_of}
 use Rattle.network.specs.Book.{BookMeaning}
 use Rattle.runs.specs.declared.line.Line.{Line}
 use Rattle.runs.specs.declared.line.Verdict.TheVariants.{Met, Unmet}
@@ -63,20 +64,34 @@ calls_of NothingPermitted = Fit ∷ []
 calls_of NothingForbidden = Fit ∷ []
 calls_of Freed = Switch 1 false ∷ Pin 0 2 ∷ Fit ∷ Free 0 ∷ Fit ∷ []
 
--- a line of a run that found a filling, and of one that found none and used these rules; a set of rules is a mask, as 5 for rules 0 and 2
-abbrev pub met : ℕ → Line
-met listed = record { listed = listed; used = 0; verdict = Met }
+-- a line of a run that found a filling, and of one that found none, by the rules listed and the rules used
+abbrev pub met : List ℕ → Line
+met listed = record { listed = set_of listed; used = 0; verdict = Met }
 
-abbrev pub unmet : ℕ → ℕ → Line
-unmet listed used = record { listed = listed; used = used; verdict = Unmet }
+abbrev pub unmet : List ℕ → List ℕ → Line
+unmet listed used = record { listed = set_of listed; used = set_of used; verdict = Unmet }
+
+-- a Fit that found a core, by its rules
+abbrev pub clash : List Line → List ℕ → Shown
+clash lines core = clashed lines (set_of core)
 
 -- what each of these calls shows
 abbrev pub shown_of : Example → List Shown
-shown_of Opposed = clashed (unmet 7 3 ∷ unmet 3 3 ∷ met 0 ∷ met 1 ∷ met 2 ∷ unmet 3 3 ∷ []) 3 ∷ []
-shown_of LoneRule = clashed (unmet 7 7 ∷ met 0 ∷ met 3 ∷ unmet 4 4 ∷ []) 4 ∷ []
-shown_of NothingPermitted = clashed (unmet 1 1 ∷ met 0 ∷ unmet 1 1 ∷ []) 1 ∷ []
-shown_of NothingForbidden = filled (met 1 ∷ []) (0 ∷ 0 ∷ 0 ∷ []) ∷ []
-shown_of Freed = done ∷ done ∷ clashed (unmet 5 1 ∷ unmet 1 1 ∷ met 0 ∷ unmet 1 1 ∷ []) 1 ∷ done ∷ filled (met 5 ∷ []) (0 ∷ 1 ∷ 1 ∷ []) ∷ []
+shown_of Opposed =
+    let both = 0 ∷ 1 ∷ [] in
+    clash (unmet (0 ∷ 1 ∷ 2 ∷ []) both ∷ unmet both both ∷ met [] ∷ met (0 ∷ []) ∷ met (1 ∷ []) ∷ unmet both both ∷ []) both ∷ []
+shown_of LoneRule =
+    let whole = 0 ∷ 1 ∷ 2 ∷ [] in
+    let lone = 2 ∷ [] in
+    clash (unmet whole whole ∷ met [] ∷ met (0 ∷ 1 ∷ []) ∷ unmet lone lone ∷ []) lone ∷ []
+shown_of NothingPermitted =
+    let only = 0 ∷ [] in
+    clash (unmet only only ∷ met [] ∷ unmet only only ∷ []) only ∷ []
+shown_of NothingForbidden = filled (met (0 ∷ []) ∷ []) (0 ∷ 0 ∷ 0 ∷ []) ∷ []
+shown_of Freed =
+    let first = 0 ∷ [] in
+    done ∷ done ∷ clash (unmet (0 ∷ 2 ∷ []) first ∷ unmet first first ∷ met [] ∷ unmet first first ∷ []) first
+    ∷ done ∷ filled (met (0 ∷ 2 ∷ []) ∷ []) (0 ∷ 1 ∷ 1 ∷ []) ∷ []
 
 -- the weights of the rules after these calls
 abbrev pub weights_of : Example → List ℕ
@@ -94,7 +109,7 @@ text_of NothingPermitted = codes "CLASH 3\nrule 0\n"
 text_of NothingForbidden = codes "FITS 1\nC0=1\nC1=1\nC2=1\n"
 text_of Freed = codes "CLASH 6\nrule 0\nrule 1\n"
 
--- the calls of an example, made over any book that means its sheet, from the steps before to the steps after: they show what they are to show, and leave the weights
+-- the calls of an example, made from the steps before to the steps after over a book that has the rules of its sheet: they show what they are to show, and leave the weights
 abbrev pub Worked : Example → List ℕ → BookMeaning → List Step → List Step → List ℕ → Type 0
 Worked x lengths book before after weights =
     Means (sheet_of x) book → lengths ≡ map length lists → Make (calls_of x) before
