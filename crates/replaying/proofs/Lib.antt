@@ -1,3 +1,2 @@
 pub mod Preparing
 pub mod Telling
-pub mod Stating

@@ -1,16 +1,13 @@
 -- The lines that replay prints: one blank parts a line's parts, and a newline byte ends each line. Assumes nothing.
-use Rattle.std.specs.Prelude.{ℕ, ◌/◌, ◌%◌, false, List, [], ◌∷◌, ◌++◌, take, Some, None, Option, vec_items, codes}
-use Rattle.std.specs.Int.{w64, to_be_bytes}
+use Rattle.std.specs.Prelude.{ℕ, List, [], ◌∷◌, ◌++◌, take, Some, None, Option, vec_items, codes}
 use Rattle.std.specs.List.{flat_map}
-use Rattle.std.specs.Fmt.{digit_glyph}
 use Rattle.std.specs.Option.{unwrap_or}
 use Rattle.formulas.specs.Tree.{numeral}
 use Rattle.sheets.specs.declared.fault.Layer.{Layer}
 use Rattle.sheets.specs.declared.fault.Layer.TheVariants.{Field, Rule, Formula}
 use Rattle.sheets.specs.declared.fault.LoadFault.{LoadFault}
 use Rattle.sheets.specs.Faults.{number, layer, offset}
-use Rattle.runs.specs.declared.line.Line.{Line}
-use Rattle.runs.specs.Verdict.{number_of as verdict_number}
+use Rattle.run_lines.specs.Lines.{set_text, log_line, numbers_line}
 use Rattle.clash.specs.declared.fitted.Fitted.{Fitted as Values}
 use Rattle.calls.specs.declared.call.Call.{Call}
 use Rattle.calls.specs.declared.call.Call.TheVariants.{Pin, Free, Switch, Fit}
@@ -19,14 +16,6 @@ use Rattle.calls.specs.declared.answer.Answer.TheVariants.{Done, Fitted, Refused
 use Rattle.calls.specs.declared.step.Step.{Step}
 use Rattle.calls.specs.Answers.{number_of}
 use Rattle.calls.specs.Promise.{lines_of}
-
--- two hex digits of a byte
-abbrev pub byte_text : ℕ → List ℕ
-byte_text b = digit_glyph false (b / 16) ∷ digit_glyph false (b % 16) ∷ []
-
--- a set of rules as 16 hex digits, the highest first
-unfoldable pub set_text : ℕ → List ℕ
-set_text s = flat_map byte_text (to_be_bytes w64 s)
 
 -- open and a number: 0, or that of the refusal
 abbrev pub open_line : ℕ → List ℕ
@@ -63,17 +52,9 @@ verdict_of (Some core) = 1
 abbrev pub fit_line : Values → List ℕ
 fit_line f = codes "fit " ++ (numeral (verdict_of f.core) ++ (32 ∷ (numeral f.lines ++ (32 ∷ (set_text (unwrap_or f.core 0) ++ (10 ∷ []))))))
 
--- filling and the places
-abbrev pub filling_line : List ℕ → List ℕ
-filling_line places = codes "filling" ++ (flat_map (λ v. 32 ∷ numeral v) places ++ (10 ∷ []))
-
--- log, the listed set, the used set and the verdict
-abbrev pub log_line : Line → List ℕ
-log_line l = codes "log " ++ (set_text l.listed ++ (32 ∷ (set_text l.used ++ (32 ∷ (numeral (verdict_number l.verdict) ++ (10 ∷ []))))))
-
 -- a Fit that was done: what it came to, its filling if there is one, and its log
 abbrev pub filling_text : Option ℕ → List ℕ → List ℕ
-filling_text None places = filling_line places
+filling_text None places = numbers_line (codes "filling") places
 filling_text (Some core) places = []
 
 abbrev pub fitted_text : ℕ → Step → Values → List ℕ

@@ -1,13 +1,12 @@
 -- The text that replay prints for a file and a script. Assumes nothing.
-use Rattle.std.specs.Prelude.{◌≡◌, ℕ, ◌+◌, ◌<◌, ◌≤◌, Bool, true, false, List, ◌∷◌, ◌++◌, map, length, replicate}
+use Rattle.std.specs.Prelude.{◌≡◌, ℕ, ◌+◌, Bool, true, false, List, [], ◌∷◌, ◌++◌, map, length, replicate, Ok, Err}
 use Rattle.std.specs.List.{AllByRecursion}
 use Rattle.network.specs.Book.{BookMeaning, flag_at, turned}
 use Rattle.calls.specs.Sheet.{sheet}
 use Rattle.sheets.specs.declared.fault.LoadFault.{LoadFault}
-use Rattle.sheets.specs.declared.fault.LoadFault.TheVariants.{Size}
 use Rattle.sheets.specs.Sheet.{Sheet as Stated}
-use Rattle.sheets.specs.Reading.{ReadAs, RefusedWith}
 use Rattle.sheets.specs.Meaning.{Means}
+use Rattle.storage.specs.Outcome.{Outcome}
 use Rattle.script.specs.declared.line.Line.{Line}
 use Rattle.script.specs.declared.line.Line.TheVariants.{Blank, Call, Turn, NotUnderstood}
 use Rattle.script.specs.Script.{IsScript}
@@ -43,6 +42,5 @@ no_flags = replicate 64 false
 -- the text for a file and a script: the line of the file's first fault; or the text of the script's sessions, each over a book with the rules of the
 -- sheet that the file is, the first with no rule turned round
 pub data Replays (file script : List ℕ) : List ℕ → Type 0 where
-  too_long : 32768 < length file → Replays file script (load_line Size)
-  faulty : {e : LoadFault} → length file ≤ 32768 → RefusedWith file e → Replays file script (load_line e)
-  read : {s : Stated} {ls : List Line} {t : List ℕ} → length file ≤ 32768 → ReadAs file s → IsScript script ls → Sessions s no_flags 1 ls t → Replays file script t
+  refused : {e : LoadFault} → Outcome file (Err e) → Replays file script (load_line e)
+  played : {s : Stated} {ls : List Line} {t : List ℕ} → Outcome file (Ok s) → IsScript script ls → Sessions s no_flags 1 ls t → Replays file script t

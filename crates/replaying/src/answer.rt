@@ -2,56 +2,17 @@
 ghost use Rattle.std.specs.Prelude.{◌≡◌, [], ◌∷◌, ◌++◌, take, codes, vec_items, OnOk, string_bytes};
 ghost use Rattle.std.specs.List.{flat_map};
 ghost use Rattle.formulas.specs.Tree.{numeral};
-ghost use Rattle.runs.specs.Verdict.{number_of as verdict_number};
-ghost use Rattle.replaying.specs.Lines.{verdict_of, byte_text, set_text, log_line, filling_line, fit_line, filling_text, call_text, call_line, answer_text};
+ghost use Rattle.run_lines.specs.Lines.{log_line, numbers_line};
+ghost use Rattle.replaying.specs.Lines.{verdict_of, fit_line, filling_text, call_text, call_line, answer_text};
 
 use calls::answer::Answer;
 use calls::call::Call;
 use calls::step::{Buffers, Step};
 use clash::fitted::Fitted;
-use runs::line::{Line, Verdict};
+use run_lines::{push_log_line, push_set};
+use runs::line::Line;
 use std::alloc::AllocError;
 use text::part;
-
-/// The two hex digits of a byte.
-#[tactic(auto, using(std::proofs::lemmas::Fmt::hex_byte))]
-fn push_byte(out: &mut String, byte: u8) -> Result<(), AllocError>
-    ensures { OnOk result (string_bytes out.new ≡ string_bytes out.old ++ byte_text byte) }
-{
-    write!(out, "{byte:02x}")
-}
-
-/// A set of rules, as 16 hex digits.
-#[tactic(auto, unfolding(crate::specs::Lines::set_text))]
-fn push_set(out: &mut String, set: u64) -> Result<(), AllocError>
-    ensures { OnOk result (string_bytes out.new ≡ string_bytes out.old ++ set_text set) }
-{
-    for byte in &set.to_be_bytes() {
-        push_byte(out, *byte)?;
-    }
-    Ok(())
-}
-
-/// The verdict at the end of a line of a log.
-#[tactic(auto, using(text::proofs::Decimals::decimal_numeral))]
-fn push_verdict(out: &mut String, verdict: Verdict) -> Result<(), AllocError>
-    ensures { OnOk result (string_bytes out.new ≡ string_bytes out.old ++ (32 ∷ (numeral (verdict_number verdict) ++ (10 ∷ [])))) }
-{
-    let number = verdict.number();
-    writeln!(out, " {number}")
-}
-
-/// A line of a Fit's log.
-#[tactic(auto, using(text::proofs::Pieces::pieces))]
-fn push_log_line(out: &mut String, line: &Line) -> Result<(), AllocError>
-    ensures { OnOk result (string_bytes out.new ≡ string_bytes out.old ++ log_line line.now) }
-{
-    write!(out, "log ")?;
-    push_set(out, line.listed)?;
-    write!(out, " ")?;
-    push_set(out, line.used)?;
-    push_verdict(out, line.verdict)
-}
 
 /// The places of a filling, a blank before each.
 fn push_places(out: &mut String, places: &[u8]) -> Result<(), AllocError>
@@ -66,7 +27,7 @@ fn push_places(out: &mut String, places: &[u8]) -> Result<(), AllocError>
 /// The line of a filling.
 #[tactic(auto, using(text::proofs::Pieces::pieces))]
 fn push_filling(out: &mut String, places: &[u8]) -> Result<(), AllocError>
-    ensures { OnOk result (string_bytes out.new ≡ string_bytes out.old ++ filling_line places.now) }
+    ensures { OnOk result (string_bytes out.new ≡ string_bytes out.old ++ numbers_line (codes "filling") places.now) }
 {
     write!(out, "filling")?;
     push_places(out, places)?;

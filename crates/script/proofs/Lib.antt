@@ -1,2 +1,2 @@
 pub mod Reading
-pub mod Numbers
+pub mod Several

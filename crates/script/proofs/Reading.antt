@@ -8,7 +8,7 @@ use Rattle.script.specs.declared.line.Line.{Line}
 use Rattle.script.specs.declared.line.Line.TheVariants.{Blank, Call, Turn, NotUnderstood}
 use Rattle.script.specs.Words.{words_of, IsNumber, rule_number, cell_number}
 use Rattle.script.specs.Script.{flags_of, Says, blank, comment, pin, free, on_word, switch, fit, turn, Decided, ReadAs, understood, nothing, AreRead, none, more}
-use Rattle.script.proofs.Numbers.{map_more, mapped_at}
+use Rattle.script.proofs.Several.{map_more, mapped_at}
 
 -- the letter at a place of the first word
 abbrev letter : ℕ → List (List ℕ) → ℕ

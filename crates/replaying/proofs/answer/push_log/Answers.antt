@@ -1,6 +1,6 @@
 use Rattle.std.proofs.Common.{string_bytes, refl}
 use Rattle.text.proofs.Pieces.{joined_more}
-use Rattle.replaying.specs.Lines.{log_line}
+use Rattle.run_lines.specs.Lines.{log_line}
 use Rattle.replaying.proofs.answer.push_log.Goals as goal
 
 pub loop-line-preserved : goal.loop-line-preserved

@@ -1,6 +1,6 @@
 use Rattle.std.proofs.Common.{◌≡◌, ◌++◌, take, string_bytes}
 use Rattle.std.specs.List.{flat_map}
-use Rattle.replaying.specs.Lines.{log_line}
+use Rattle.run_lines.specs.Lines.{log_line}
 use Rattle.replaying.proofs.answer.push_log.Given as goal
 
 abbrev pub invariant-loop-line : goal.invariant-loop-line
