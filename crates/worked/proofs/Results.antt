@@ -14,7 +14,7 @@ use Rattle.answers.specs.Answers.{usual, usual_start}
 use Rattle.worked.specs.declared.example.Example.{Example}
 use Rattle.worked.specs.declared.example.Example.TheVariants.{Opposed, LoneRule, NothingPermitted, NothingForbidden, Freed}
 use Rattle.worked.specs.Shows.{Show}
-use Rattle.worked.specs.Examples.{lists, sheet_of, calls_of, shown_of, weights_of, Worked}
+use Rattle.worked.specs.Examples.{lists, sheet_of, calls_of, shown_of, weights_of, Comes, Worked, Holds}
 use Rattle.worked.proofs.Sound.{All, Agree}
 use Rattle.worked.proofs.Evaluating.{Played, plays, opens?}
 use Rattle.worked.proofs.Showing.{opens_sound, plays_sound}
@@ -52,17 +52,18 @@ opens NothingPermitted = refl
 opens NothingForbidden = refl
 opens Freed = refl
 
-come : (x : Example) (after : List Step) (y : Lasting Usual) (o : Option (Played Usual)) → Gives x o
-    → All (λ p. Show 3 p.shown after × (y ≡ p.after)) o → Show 3 (shown_of x) after × (take (length (weights_of x)) y.weights ≡ weights_of x)
+come : (x : Example) (after : List Step) (y : Lasting Usual) (o : Option (Played Usual)) → Gives x o → All (λ p. Show 3 p.shown after × (y ≡ p.after)) o → Comes x after y.weights
 come x after y None g p = absurd g
 come x after y (Some r) g p =
     (subst (λ s. Show 3 s after) g.0 p.0, ap (λ (l : Lasting Usual). take (length (weights_of x)) l.weights) p.1 ∙ g.1)
 
+-- every play of the calls of an example
+pub holds : (x : Example) → Holds x (calls_of x)
+holds x m before after y means make p =
+    let agree = agrees (sheet_of x) m means in
+    come x after y (evaluated x) (gives x)
+    (plays_sound usual (book_of (sheet_of x)) m agree (map length lists) 10 (opens_sound (map length lists) (book_of (sheet_of x)) m agree (opens x)) (calls_of x) [] (fresh usual_start) y before after make p)
+
 pub worked : (x : Example) (lengths : List ℕ) (m : BookMeaning) (before after : List Step) (y : Lasting Usual)
     → PlaysByRuns usual (sheet lengths m) [] (fresh usual_start) before after y → Worked x lengths m before after y.weights
-worked x lengths m before after y p means long make =
-    let agree = agrees (sheet_of x) m means in
-    let open' = opens_sound (map length lists) (book_of (sheet_of x)) m agree (opens x) in
-    let q : PlaysByRuns usual (sheet (map length lists) m) [] (fresh usual_start) before after y = subst (λ l. PlaysByRuns usual (sheet l m) [] (fresh usual_start) before after y) long p in
-    come x after y (evaluated x) (gives x)
-    (plays_sound usual (book_of (sheet_of x)) m agree (map length lists) 10 open' (calls_of x) [] (fresh usual_start) y before after make q)
+worked x lengths m before after y p means long make = holds x m before after y means make (subst (λ l. PlaysByRuns usual (sheet l m) [] (fresh usual_start) before after y) long p)

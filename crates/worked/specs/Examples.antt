@@ -2,11 +2,16 @@
 use Rattle.std.specs.Prelude.{◌≡◌, ℕ, false, List, [], ◌∷◌, map, length, take, ℤ, pos, codes}
 use Rattle.bits.specs.Sets.{set_of}
 use Rattle.network.specs.Book.{BookMeaning}
+use Rattle.choosers.specs.declared.weighted.Weighted.{Weighted}
+use Rattle.choosers.specs.declared.last_conflict.LastConflict.{LastConflict}
 use Rattle.runs.specs.declared.line.Line.{Line}
 use Rattle.runs.specs.declared.line.Verdict.TheVariants.{Met, Unmet}
+use Rattle.clash.specs.Running.{Lasting}
 use Rattle.calls.specs.declared.call.Call.{Call}
 use Rattle.calls.specs.declared.call.Call.TheVariants.{Pin, Free, Switch, Fit}
 use Rattle.calls.specs.declared.step.Step.{Step}
+use Rattle.calls.specs.Sheet.{sheet}
+use Rattle.calls.specs.Runs.{fresh, PlaysByRuns}
 use Rattle.rows.specs.declared.rule.Kind.{Kind}
 use Rattle.rows.specs.declared.rule.Kind.TheVariants.{Permitted, Forbidden}
 use Rattle.formulas.specs.declared.node.Shift.TheVariants.{Bare}
@@ -16,6 +21,7 @@ use Rattle.formulas.specs.declared.node.Relation.TheVariants.{Equal, NotEqual, L
 use Rattle.formulas.specs.Tree.{Condition, compares}
 use Rattle.sheets.specs.Sheet.{Sheet}
 use Rattle.sheets.specs.Meaning.{Means}
+use Rattle.answers.specs.Answers.{usual, usual_start}
 use Rattle.worked.specs.declared.example.Example.{Example}
 use Rattle.worked.specs.declared.example.Example.TheVariants.{Opposed, LoneRule, NothingPermitted, NothingForbidden, Freed}
 use Rattle.worked.specs.Shows.{Shown, done, filled, clashed, Show, Make}
@@ -109,8 +115,15 @@ text_of NothingPermitted = codes "CLASH 3\nrule 0\n"
 text_of NothingForbidden = codes "FITS 1\nC0=1\nC1=1\nC2=1\n"
 text_of Freed = codes "CLASH 6\nrule 0\nrule 1\n"
 
--- the calls of an example, made from the steps before to the steps after over a book that has the rules of its sheet: they show what they are to show, and leave the weights
+-- the steps show what the calls of the example are to show, and these are the weights after them
+abbrev pub Comes : Example → List Step → List ℕ → Type 0
+Comes x after weights = Show 3 (shown_of x) after × (take (length (weights_of x)) weights ≡ weights_of x)
+
+-- made over a book that has the rules of the example's sheet, from the steps before to the steps after, its calls come to that
 abbrev pub Worked : Example → List ℕ → BookMeaning → List Step → List Step → List ℕ → Type 0
-Worked x lengths book before after weights =
-    Means (sheet_of x) book → lengths ≡ map length lists → Make (calls_of x) before
-    → Show 3 (shown_of x) after × (take (length (weights_of x)) weights ≡ weights_of x)
+Worked x lengths book before after weights = Means (sheet_of x) book → lengths ≡ map length lists → Make (calls_of x) before → Comes x after weights
+
+-- every play of these calls by runs, under last conflict over weighted and over any book that has the rules of the example's sheet, comes to that
+abbrev pub Holds : Example → List Call → Type 0
+Holds x calls = (book : BookMeaning) (before after : List Step) (y : Lasting (LastConflict Weighted)) → Means (sheet_of x) book → Make calls before
+    → PlaysByRuns usual (sheet (map length lists) book) [] (fresh usual_start) before after y → Comes x after y.weights

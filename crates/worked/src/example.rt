@@ -1,7 +1,7 @@
 //! The worked sheets.
 ghost use Rattle.std.specs.Prelude.{◌≡◌, IfOk, string_bytes};
 ghost use Rattle.sheets.specs.Sheet.{file_of};
-ghost use Rattle.worked.specs.Examples.{sheet_of, calls_of, text_of};
+ghost use Rattle.worked.specs.Examples.{sheet_of, calls_of, text_of, Holds};
 
 use answers::answer::answer;
 use calls::call::Call;
@@ -43,9 +43,10 @@ impl Example {
         }
     }
 
-    /// The calls that are made on it.
+    /// The calls that are made on it. Every play of them by runs comes to what was worked out.
     pub fn calls(self) -> &'static [Call]
-        ensures { result.now ≡ calls_of self }
+        ensures calls { result.now ≡ calls_of self }
+        ensures holds { Holds self result.now }
     {
         match self {
             Example::Freed => &[
@@ -55,7 +56,10 @@ impl Example {
                 Call::Free { cell: 0 },
                 Call::Fit,
             ],
-            _ => &[Call::Fit],
+            Example::Opposed
+            | Example::LoneRule
+            | Example::NothingPermitted
+            | Example::NothingForbidden => &[Call::Fit],
         }
     }
 
