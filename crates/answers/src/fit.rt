@@ -50,7 +50,7 @@ fn push_answer(out: &mut String, cells: u8, numbers: &[i32], step: &Step) -> Res
 }
 
 /// Opens a session over the lists and the book, makes one Fit, and tells its answer; or tells why it cannot be opened.
-pub fn push_fit<B: RuleBook + Drop>(
+pub(crate) fn push_fit<B: RuleBook + Drop>(
     out: &mut String,
     lengths: &[u8],
     numbers: &[i32],
