@@ -3,7 +3,7 @@ ghost use Rattle.std.specs.Prelude.{◌≡◌, ℕ, ◌+◌, ◌^◌, ◌<◌, f
 ghost use Rattle.sheets.specs.Sheet.{Sheet};
 ghost use Rattle.sheets.specs.Stored.{held, Enough};
 ghost use Rattle.sheet_books.specs.Books.{Holds};
-ghost use Rattle.replaying.specs.Lines.{layer_text, load_line};
+ghost use Rattle.replaying.specs.Lines.{load_line};
 ghost use Rattle.replaying.specs.Replays.{stays, AllStay, TurnedText, Sessions, no_flags, Replays};
 
 use crate::session::push_session;
@@ -11,21 +11,11 @@ use load::load::load;
 use network::turned::Turned;
 use script::line::{Line, lines};
 use sheet_books::{books, lengths};
-use sheets::fault::{Layer, LoadFault};
+use sheets::fault::LoadFault;
 use sheets::stores::{Extent, Stores};
+use shown::layer_word;
 use std::alloc::{AllocError, Global};
 use storage::Storage;
-
-/// The word for a layer of a file.
-fn layer_word(layer: Layer) -> &'static str
-    ensures { result.now ≡ layer_text layer }
-{
-    match layer {
-        Layer::Field => "field",
-        Layer::Rule => "rule",
-        Layer::Formula => "formula",
-    }
-}
 
 /// The line of a fault.
 #[tactic(auto, using(text::proofs::Pieces::pieces))]
