@@ -1,36 +1,20 @@
 -- Lines written piece by piece. Assumes nothing.
-use Rattle.std.proofs.Common.{◌≡◌, ℕ, suc, ◌+◌, ◌<◌, ◌≤◌, Bool, cond, eqb, IfOk, Ok, Err, Result, List, [], ◌∷◌, ◌++◌, map, length, get_or, take, sym, ap, ◌∙◌, append_assoc, append-nil, arith}
+use Rattle.std.proofs.Common.{◌≡◌, ℕ, suc, ◌+◌, ◌<◌, ◌≤◌, Bool, cond, eqb, List, [], ◌∷◌, ◌++◌, map, length, get_or, take, sym, ap, ◌∙◌, append_assoc, append-nil, arith}
 use mathlib.Core.List.{map-append}
 use lib.ListN.{length-map}
 use Rattle.std.specs.List.{range_with_len, flat_map}
 use Rattle.std.proofs.lemmas.List.FromFn.{map-range_with_len_more, length-map-range_with_len}
-use Rattle.std.proofs.lemmas.List.{take_more, take_all, length-take-le}
+use Rattle.std.proofs.lemmas.List.{take_all, length-take-le}
 use Rattle.std.proofs.lemmas.Bool.{ne_eqb}
-use Rattle.std.proofs.lemmas.Result.{IfOk-equal}
-use Rattle.text.proofs.Decimals.{decimal_numeral}
+use Rattle.text.proofs.Pieces.{joined_push, front}
 use Rattle.listing.specs.Listing.{numbered, commas, row_text}
-
--- for a line that is made of several pieces
-pub ruleset pieces = (decimal_numeral, IfOk-equal, append_assoc)
-
-joined_push : {X : Type 0} (f : X → List ℕ) (xs : List X) (x : X) → flat_map f (xs ++ (x ∷ [])) ≡ flat_map f xs ++ f x
-joined_push f [] x = append-nil (f x)
-joined_push f (y ∷ xs) x = ap (λ l. f y ++ l) (joined_push f xs x) ∙ sym (append_assoc (f y) (flat_map f xs) (f x))
 
 numbered_push : {X : Type 0} (f : ℕ → X → List ℕ) (n m : ℕ) (xs : List X) (x : X) → n + length xs ≡ m → numbered f n (xs ++ (x ∷ [])) ≡ numbered f n xs ++ f m x
 numbered_push f n m [] x e = append-nil (f n x) ∙ (let z : n ≡ m = omega arith in ap (λ k. f k x) z)
 numbered_push f n m (y ∷ xs) x e = ap (λ l. f n y ++ l) (numbered_push f (n + 1) m xs x (omega arith)) ∙ sym (append_assoc (f n y) (numbered f (n + 1) xs) (f m x))
 
-front : {X : Type 0} (xs : List X) (i : ℕ) (d x : X) → i < length xs → get_or xs i d ≡ x → take (i + 1) xs ≡ take i xs ++ (x ∷ [])
-front xs i d x lt is = take_more xs i d lt ∙ ap (λ y. take i xs ++ (y ∷ [])) is
-
 -- one more piece of a text that began as a
 module _ {X : Type 0} (xs : List X) (i : ℕ) (d x : X) (lt : i < length xs) (is : get_or xs i d ≡ x) (a u w : List ℕ) where
-  pub joined_more : (f : X → List ℕ) → u ≡ a ++ flat_map f (take i xs) → w ≡ u ++ f x → w ≡ a ++ flat_map f (take (i + 1) xs)
-  joined_more f e h =
-      h ∙ ap (λ l. l ++ f x) e ∙ append_assoc a (flat_map f (take i xs)) (f x)
-      ∙ ap (λ l. a ++ l) (sym (ap (flat_map f) (front xs i d x lt is) ∙ joined_push f (take i xs) x))
-
   pub numbered_more : (f : ℕ → X → List ℕ) → u ≡ a ++ numbered f 0 (take i xs) → w ≡ u ++ f i x → w ≡ a ++ numbered f 0 (take (i + 1) xs)
   numbered_more f e h =
       h ∙ ap (λ l. l ++ f i x) e ∙ append_assoc a (numbered f 0 (take i xs)) (f i x)
@@ -38,9 +22,6 @@ module _ {X : Type 0} (xs : List X) (i : ℕ) (d x : X) (lt : i < length xs) (is
 
 -- the text is whole
 module _ {X : Type 0} (xs : List X) (i : ℕ) (end : length xs ≤ i) (a u : List ℕ) where
-  pub joined_whole : (f : X → List ℕ) → u ≡ a ++ flat_map f (take i xs) → u ≡ a ++ flat_map f xs
-  joined_whole f e = e ∙ ap (λ l. a ++ flat_map f l) (take_all i xs end)
-
   pub numbered_whole : (f : ℕ → X → List ℕ) → u ≡ a ++ numbered f 0 (take i xs) → u ≡ a ++ numbered f 0 xs
   numbered_whole f e = e ∙ ap (λ l. a ++ numbered f 0 l) (take_all i xs end)
 

@@ -8,7 +8,7 @@ use sheets::tag::Tag;
 use std::alloc::AllocError;
 
 /// The line of a formula.
-#[tactic(auto, using(crate::proofs::Texts::pieces))]
+#[tactic(auto, using(text::proofs::Pieces::pieces))]
 fn push_formula(out: &mut Vec<u8>, number: u64, formula: &[u8]) -> Result<(), AllocError>
     ensures { OnOk result (out.new.items ≡ out.old.items ++ text_line number formula.now) }
 {

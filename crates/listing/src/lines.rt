@@ -31,7 +31,7 @@ fn push_numbers(out: &mut String, numbers: &[i32]) -> Result<(), AllocError>
 }
 
 /// The line of a cell.
-#[tactic(auto, using(crate::proofs::Texts::pieces))]
+#[tactic(auto, using(text::proofs::Pieces::pieces))]
 fn push_cell(out: &mut String, cell: usize, numbers: &[i32]) -> Result<(), AllocError>
     ensures { OnOk result (string_bytes out.new ≡ string_bytes out.old ++ cell_line cell numbers.now) }
 {
@@ -77,7 +77,7 @@ fn push_rows(out: &mut String, rule: &RowsRule, places: &[u8]) -> Result<(), All
 }
 
 /// The line of a rule.
-#[tactic(auto, using(crate::proofs::Texts::pieces))]
+#[tactic(auto, using(text::proofs::Pieces::pieces))]
 fn push_rule(
     out: &mut String,
     number: usize,

@@ -13,7 +13,7 @@ use std::alloc::{AllocError, Global};
 use storage::Storage;
 
 /// The word for a layer.
-fn layer_word(layer: Layer) -> &'static str
+pub fn layer_word(layer: Layer) -> &'static str
     ensures { result.now ≡ layer_text layer }
 {
     match layer {

@@ -1,7 +1,7 @@
 use Rattle.std.proofs.Common.{◌++◌, string_bytes, refl, rules}
 use Rattle.formulas.specs.Tree.{numeral}
 use Rattle.text.proofs.Decimals.{decimal_numeral}
-use Rattle.listing.proofs.Texts.{joined_more}
+use Rattle.text.proofs.Pieces.{joined_more}
 use Rattle.listing.proofs.lines.push_each.Goals as goal
 
 pub loop-item-preserved : goal.loop-item-preserved

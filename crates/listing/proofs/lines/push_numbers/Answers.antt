@@ -1,7 +1,7 @@
 use Rattle.std.proofs.Common.{◌∷◌, get_or, pos, string_bytes, refl, w32, SFits, rules}
 use Rattle.formulas.specs.Tree.{number_text}
 use Rattle.text.proofs.Decimals.{signed_number_text}
-use Rattle.listing.proofs.Texts.{joined_more}
+use Rattle.text.proofs.Pieces.{joined_more}
 use Rattle.listing.proofs.lines.push_numbers.Goals as goal
 
 pub loop-number-preserved : goal.loop-number-preserved

@@ -1,0 +1,6 @@
+//! What a script of calls is: its lines, and how each is read. Uses `calls`.
+#![tactic(auto)]
+
+pub mod line;
+mod number;
+mod words;
