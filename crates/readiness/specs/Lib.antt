@@ -1,2 +1,1 @@
-pub mod Named
 pub mod Room

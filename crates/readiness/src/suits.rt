@@ -1,14 +1,13 @@
 //! Whether a book suits some cells.
-ghost use Rattle.std.specs.Prelude.{◌<◌, length, Decides};
+ghost use Rattle.std.specs.Prelude.{ℕ, ◌<◌, length, Decides};
 ghost use Rattle.runs.specs.Settle.{cell_at};
 ghost use Rattle.runs.specs.Law.{Suits};
-ghost use Rattle.readiness.specs.Named.{Within};
 
 use network::book::RuleBook;
 
 /// Whether every cell that the rule names is one of the first.
 fn is_within<B: RuleBook>(book: &B, rule: u16, cells: usize) -> bool
-    ensures { Decides result (Within (B.meaning book.now) cells rule) }
+    ensures { Decides result ((i : ℕ) → i < length ((B.meaning book.now).rule rule).cells → cell_at (B.meaning book.now) rule i < cells) }
 {
     (0..book.width(rule)).all(|position| usize::from(book.cell(rule, position)) < cells)
 }

@@ -15,7 +15,7 @@ returns-then-not-suits g c =
     let m = g.B.RuleBook.meaning c.args.book.now in
     let few : m.count ≤ 64 = omega (arith, c.count.ensures, c.if-count-gt64.false) in
     missing (c.are_listed.ensures.0 c.if-not-are_listed.false) few
-    (λ named. not_from_Decides c.suits.result c.suits.ensures c.if-not-suits.true (suits_from (g.B.RuleBook.laws c.args.book.now) few named))
+    (λ named. not_from_Decides c.suits.result c.suits.ensures c.if-not-suits.true (suits_from (g.B.RuleBook.laws c.args.book.now) few (λ r i lt. named r lt i)))
 
 pub returns : goal.returns
 returns g c =
