@@ -12,7 +12,7 @@ use Rattle.calls.specs.declared.answer.Answer.{Answer}
 use Rattle.calls.specs.declared.answer.Answer.TheVariants.{Done, Fitted, Refused}
 use Rattle.calls.specs.declared.step.Step.{Step}
 use Rattle.calls.specs.Answers.{number_of}
-use Rattle.calls.specs.Sheet.{Sheet, sheet, cells, Checked, Opens, Enough}
+use Rattle.calls.specs.Sheet.{Sheet, sheet, cells, Sizes, Checked, Opens, Enough}
 use Rattle.calls.specs.Plays.{sizes}
 use Rattle.calls.specs.Promise.{filling_of, FillingOrCore}
 use Rattle.calls.specs.Runs.{StepRuns, fresh}
@@ -44,6 +44,10 @@ usual = record {
 
 abbrev pub usual_start : LastConflict Weighted
 usual_start = record { below = record {}; held = None }
+
+-- how long the buffers are that a Fit wants
+abbrev pub fit_sizes : Sizes
+fit_sizes = record { work = 4096; log = 450; filling = 64 }
 
 -- one call, a Fit with buffers that are long enough
 pub record OneFit (steps : List Step) : Type 0 where

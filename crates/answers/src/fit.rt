@@ -1,7 +1,8 @@
 //! The text of one Fit on a session just made.
 ghost use Rattle.std.specs.Prelude.{◌≡◌, ℕ, ◌+◌, ◌*◌, ◌≤◌, List, [], ◌∷◌, ◌++◌, length, pos, IfOk, OnOk, slice_index, slice_index_or, string_bytes};
 ghost use Rattle.calls.specs.Sheet.{sheet};
-ghost use Rattle.answers.specs.Answers.{answer_text, OneFit, FitText, usual, usual_start};
+ghost use Rattle.calls.specs.Plays.{sizes};
+ghost use Rattle.answers.specs.Answers.{answer_text, fit_sizes, OneFit, FitText, usual, usual_start};
 
 use calls::answer::Answer;
 use calls::call::Call;
@@ -18,7 +19,8 @@ use text::push_fault;
 
 /// A Fit with buffers that are long enough.
 pub fn fit_step(heap: Global) -> Result<Step, AllocError>
-    ensures { IfOk result (λ s. OneFit (s ∷ [])) }
+    ensures one { IfOk result (λ s. OneFit (s ∷ [])) }
+    ensures sizes { IfOk result (λ s. sizes s.buffers ≡ fit_sizes) }
 {
     let line = Line {
         listed: 0,
@@ -50,7 +52,7 @@ fn push_answer(out: &mut String, cells: u8, numbers: &[i32], step: &Step) -> Res
 }
 
 /// Opens a session over the lists and the book, makes one Fit, and tells its answer; or tells why it cannot be opened.
-pub fn push_fit<B: RuleBook + Drop>(
+pub(crate) fn push_fit<B: RuleBook + Drop>(
     out: &mut String,
     lengths: &[u8],
     numbers: &[i32],

@@ -2,4 +2,4 @@
 #![tactic(auto)]
 
 pub mod answer;
-mod fit;
+pub mod fit;

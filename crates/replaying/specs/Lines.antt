@@ -3,10 +3,9 @@ use Rattle.std.specs.Prelude.{ℕ, List, [], ◌∷◌, ◌++◌, take, Some, No
 use Rattle.std.specs.List.{flat_map}
 use Rattle.std.specs.Option.{unwrap_or}
 use Rattle.formulas.specs.Tree.{numeral}
-use Rattle.sheets.specs.declared.fault.Layer.{Layer}
-use Rattle.sheets.specs.declared.fault.Layer.TheVariants.{Field, Rule, Formula}
 use Rattle.sheets.specs.declared.fault.LoadFault.{LoadFault}
 use Rattle.sheets.specs.Faults.{number, layer, offset}
+use Rattle.shown.specs.Shown.{layer_text}
 use Rattle.run_lines.specs.Lines.{set_text, log_line, numbers_line}
 use Rattle.clash.specs.declared.fitted.Fitted.{Fitted as Values}
 use Rattle.calls.specs.declared.call.Call.{Call}
@@ -22,11 +21,6 @@ abbrev pub open_line : ℕ → List ℕ
 open_line n = codes "open " ++ (numeral n ++ (10 ∷ []))
 
 -- load, the number of a fault, its layer and its offset
-abbrev pub layer_text : Layer → List ℕ
-layer_text Field = codes "field"
-layer_text Rule = codes "rule"
-layer_text Formula = codes "formula"
-
 abbrev pub load_line : LoadFault → List ℕ
 load_line e = codes "load " ++ (numeral (number e) ++ (32 ∷ (layer_text (layer e) ++ (32 ∷ (numeral (offset e) ++ (10 ∷ []))))))
 

@@ -1,5 +1,5 @@
 -- The text that replay prints for a file and a script. Assumes nothing.
-use Rattle.std.specs.Prelude.{◌≡◌, ℕ, ◌+◌, Bool, true, false, List, [], ◌∷◌, ◌++◌, map, length, replicate, Ok, Err}
+use Rattle.std.specs.Prelude.{◌≡◌, ℕ, ◌+◌, Bool, true, false, List, ◌∷◌, ◌++◌, map, length, replicate, Ok, Err}
 use Rattle.std.specs.List.{AllByRecursion}
 use Rattle.network.specs.Book.{BookMeaning, flag_at, turned}
 use Rattle.calls.specs.Sheet.{sheet}

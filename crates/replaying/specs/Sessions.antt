@@ -11,7 +11,7 @@ use Rattle.calls.specs.Sheet.{Sheet, cells, Sizes, Checked}
 use Rattle.calls.specs.Plays.{sizes}
 use Rattle.calls.specs.Promise.{FillingsAndCores}
 use Rattle.calls.specs.Runs.{PlaysByRuns, Follows, fresh}
-use Rattle.answers.specs.Answers.{usual, usual_start}
+use Rattle.answers.specs.Answers.{usual, usual_start, fit_sizes}
 use Rattle.script.specs.declared.line.Line.{Line}
 use Rattle.script.specs.declared.line.Line.TheVariants.{Blank, Call as CallLine, Turn, NotUnderstood}
 use Rattle.replaying.specs.Lines.{open_line, not_understood, answer_text}
@@ -28,7 +28,7 @@ calls_of ls = filter_map call_of ls
 
 -- how long the buffers of a call are: those of a Fit as long as one wants, and others empty
 abbrev pub room_of : Call → Sizes
-room_of Fit = record { work = 4096; log = 450; filling = 64 }
+room_of Fit = fit_sizes
 room_of (Pin cell place) = record { work = 0; log = 0; filling = 0 }
 room_of (Free cell) = record { work = 0; log = 0; filling = 0 }
 room_of (Switch rule on) = record { work = 0; log = 0; filling = 0 }

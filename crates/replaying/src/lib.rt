@@ -1,4 +1,4 @@
-//! The text that `replay` prints for a sheet file and a script of calls. Uses `script`, `storage`, `load`, `sheet_books`, `opening`, `play`, `answers` and `text`, and what these are made of.
+//! The text that `replay` prints for a sheet file and a script of calls. Uses `script`, `storage`, `load`, `sheet_books`, `opening`, `play`, `run_lines`, `answers`, `shown` and `text`, and what these are made of.
 #![tactic(auto)]
 
 mod answer;

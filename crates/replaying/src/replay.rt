@@ -3,7 +3,7 @@ ghost use Rattle.std.specs.Prelude.{◌≡◌, ℕ, ◌+◌, ◌^◌, ◌<◌, f
 ghost use Rattle.sheets.specs.Sheet.{Sheet};
 ghost use Rattle.sheets.specs.Stored.{held, Enough};
 ghost use Rattle.sheet_books.specs.Books.{Holds};
-ghost use Rattle.replaying.specs.Lines.{layer_text, load_line};
+ghost use Rattle.replaying.specs.Lines.{load_line};
 ghost use Rattle.replaying.specs.Replays.{stays, AllStay, TurnedText, Sessions, no_flags, Replays};
 
 use crate::session::push_session;
@@ -11,21 +11,11 @@ use load::load::load;
 use network::turned::Turned;
 use script::line::{Line, lines};
 use sheet_books::{books, lengths};
-use sheets::fault::{Layer, LoadFault};
+use sheets::fault::LoadFault;
 use sheets::stores::{Extent, Stores};
+use shown::layer_word;
 use std::alloc::{AllocError, Global};
 use storage::Storage;
-
-/// The word for a layer of a file.
-fn layer_word(layer: Layer) -> &'static str
-    ensures { result.now ≡ layer_text layer }
-{
-    match layer {
-        Layer::Field => "field",
-        Layer::Rule => "rule",
-        Layer::Formula => "formula",
-    }
-}
 
 /// The line of a fault.
 #[tactic(auto, using(text::proofs::Pieces::pieces))]
@@ -126,4 +116,36 @@ pub fn replay(heap: Global, file: &[u8], script: &[u8]) -> Result<String, AllocE
 {
     let mut storage = Storage::new(heap)?;
     replay_in(heap, file, &mut storage.lend(), script)
+}
+
+#[cfg(test)]
+mod tests {
+    use std::test::Fail;
+
+    #[test]
+    fn a_session(rt: HostRuntime) -> Result<(), Fail> {
+        let file = b"\x01\x00\x08\x00\x00\x00\x01\x00\x00\x00\x02\x04\x00\x00";
+        let script = b"pin 1\n# nothing\n\npin 0 1\nfree 300\nswitch 0 on\nturn x\nfit\nturn 99\n";
+        let out = super::replay(rt.alloc(), file, script)?;
+        assert!(rt;
+            out.as_str()
+                == "open 0\nline 1 not understood\npin 0\nfree 15\nswitch 17\nline 7 not understood\nfit 0 1 0000000000000000\nfilling 1\nlog 0000000000000000 0000000000000000 0\nopen 0\n"
+        );
+        Ok(())
+    }
+
+    #[test]
+    fn a_shut_session(rt: HostRuntime) -> Result<(), Fail> {
+        let file = b"\x04\x00\x00";
+        let out = super::replay(rt.alloc(), file, b"fit\npin 0 0")?;
+        assert!(rt; out.as_str() == "open 11\nfit refused 14\npin 14\n");
+        Ok(())
+    }
+
+    #[test]
+    fn a_fault(rt: HostRuntime) -> Result<(), Fail> {
+        let out = super::replay(rt.alloc(), b"\x04\x01", b"fit\n")?;
+        assert!(rt; out.as_str() == "load 1 field 0\n");
+        Ok(())
+    }
 }

@@ -3,27 +3,12 @@ ghost use Rattle.std.specs.Prelude.{◌≡◌, List, [], ◌∷◌, ◌++◌, If
 ghost use Rattle.calls.specs.Plays.{sizes};
 ghost use Rattle.replaying.specs.Sessions.{room_of, Prepared};
 
+use answers::fit::fit_step;
 use calls::answer::Answer;
 use calls::call::Call;
 use calls::step::{Buffers, Step};
-use runs::line::{Line as LogLine, Verdict};
 use script::line::Line;
 use std::alloc::{AllocError, Global};
-
-/// Buffers that are as long as a Fit wants them.
-fn fit_room(heap: Global) -> Result<Buffers, AllocError>
-    ensures { IfOk result (λ b. sizes b ≡ room_of Call.Fit) }
-{
-    let line = LogLine {
-        listed: 0,
-        used: 0,
-        verdict: Verdict::Met,
-    };
-    let work = vec![in heap; 0u64; 4096]?;
-    let log = vec![in heap; line; 450]?;
-    let filling = vec![in heap; 0u8; 64]?;
-    Ok(Buffers { work, log, filling })
-}
 
 /// Empty buffers.
 fn no_room(heap: Global) -> Buffers
@@ -36,26 +21,18 @@ fn no_room(heap: Global) -> Buffers
     }
 }
 
-/// The buffers of a call; only a Fit looks at them.
-fn room(heap: Global, call: Call) -> Result<Buffers, AllocError>
-    ensures { IfOk result (λ b. sizes b ≡ room_of call) }
-{
-    match call {
-        Call::Fit => fit_room(heap),
-        Call::Pin { .. } | Call::Free { .. } | Call::Switch { .. } => Ok(no_room(heap)),
-    }
-}
-
-/// A call that is still to be made.
+/// A call that is still to be made; only a Fit looks at its buffers.
 fn step(heap: Global, call: Call) -> Result<Step, AllocError>
     ensures { IfOk result (λ b. (b.call ≡ call) × (sizes b.buffers ≡ room_of b.call)) }
 {
-    let buffers = room(heap, call)?;
-    Ok(Step {
-        call,
-        buffers,
-        answer: Answer::Done,
-    })
+    match call {
+        Call::Fit => fit_step(heap),
+        Call::Pin { .. } | Call::Free { .. } | Call::Switch { .. } => Ok(Step {
+            call,
+            buffers: no_room(heap),
+            answer: Answer::Done,
+        }),
+    }
 }
 
 /// Adds the call of one more line, if it is one.

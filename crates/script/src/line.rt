@@ -163,3 +163,41 @@ pub fn lines(heap: Global, script: &[u8]) -> Result<Vec<Line>, AllocError>
     }
     Ok(lines)
 }
+
+#[cfg(test)]
+mod tests {
+    use super::*;
+    use std::test::Fail;
+
+    #[test]
+    fn one_line(rt: HostRuntime) -> Result<(), Fail> {
+        let line = read(rt.alloc(), b" pin  3 300\r")?;
+        assert_eq!(rt;
+            line,
+            Line::Call(Call::Pin {
+                cell: 3,
+                place: 255
+            })
+        );
+        Ok(())
+    }
+
+    #[test]
+    fn some_lines(rt: HostRuntime) -> Result<(), Fail> {
+        let lines = lines(rt.alloc(), b"switch 70000 off\nswitch 0\n# fit\nfit")?;
+        assert_eq!(rt;
+            lines.as_slice(),
+            [
+                Line::Call(Call::Switch {
+                    rule: 65535,
+                    on: false
+                }),
+                Line::NotUnderstood,
+                Line::Blank,
+                Line::Call(Call::Fit),
+            ]
+            .as_slice()
+        );
+        Ok(())
+    }
+}

@@ -9,7 +9,7 @@ ghost use Rattle.runs.specs.Law.{Ready};
 ghost use Rattle.clash.specs.Running.{lasting};
 ghost use Rattle.clash.specs.Logged.{Logged};
 ghost use Rattle.calls.specs.Runs.{Ran};
-ghost use Rattle.session.specs.Calls.{sheet_of, sizes_of, Made, Changed, FitCalled, Solved};
+ghost use Rattle.session.specs.Calls.{sheet_of, lasting_of, sizes_of, Made, Changed, FitCalled, Solved};
 
 use crate::start::{rules_on, set_starts, write_lowest};
 use crate::table::Table;
@@ -55,6 +55,13 @@ impl<'a, B, C> Session<'a, B, C> {
             chooser,
             table,
         }
+    }
+
+    /// The weight of each of 64 rules, as the Fits so far left it.
+    pub fn weights(&self) -> &[u32; 64]
+        ensures { result.now ≡ (lasting_of self.now).weights }
+    {
+        &self.table.weights
     }
 }
 

@@ -13,7 +13,7 @@ use std::alloc::{AllocError, Global};
 use storage::Storage;
 
 /// The word for a layer.
-fn layer_word(layer: Layer) -> &'static str
+pub fn layer_word(layer: Layer) -> &'static str
     ensures { result.now ≡ layer_text layer }
 {
     match layer {
@@ -55,4 +55,33 @@ pub fn shown(heap: Global, file: &[u8]) -> Result<Vec<u8>, AllocError>
 {
     let mut storage = Storage::new(heap)?;
     shown_in(heap, file, &mut storage.lend())
+}
+
+#[cfg(test)]
+mod tests {
+    use std::test::Fail;
+
+    #[test]
+    fn a_fault_of_fields(rt: HostRuntime) -> Result<(), Fail> {
+        let out = super::shown(rt.alloc(), b"")?;
+        assert!(rt; out.as_slice() == b"FAULT 1 field 0\n".as_slice());
+        Ok(())
+    }
+
+    #[test]
+    fn a_fault_of_a_rule(rt: HostRuntime) -> Result<(), Fail> {
+        let file = b"\x01\x00\x08\x00\x00\x00\x01\x00\x0f\x42\x41\x04\x00\x00";
+        let out = super::shown(rt.alloc(), file)?;
+        assert!(rt; out.as_slice() == b"FAULT 3 rule 0\n".as_slice());
+        Ok(())
+    }
+
+    #[test]
+    fn a_fault_of_a_formula(rt: HostRuntime) -> Result<(), Fail> {
+        let file =
+            b"\x01\x00\x0c\x00\x00\x00\x01\x00\x00\x00\x02\x00\x00\x00\x03\x01\x00\x0c\x00\x00\x00\x01\x00\x00\x00\x02\x00\x00\x00\x03\x01\x00\x0c\x00\x00\x00\x01\x00\x00\x00\x02\x00\x00\x00\x03\x03\x00\x05C0=07\x04\x00\x00";
+        let out = super::shown(rt.alloc(), file)?;
+        assert!(rt; out.as_slice() == b"FAULT 6 formula 52\n".as_slice());
+        Ok(())
+    }
 }
