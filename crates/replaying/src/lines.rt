@@ -50,7 +50,7 @@ fn push_line<'a>(
 }
 
 /// What is told of some lines, the first of which has this number.
-pub fn push_lines(
+pub(crate) fn push_lines(
     out: &mut String,
     cells: usize,
     first: usize,

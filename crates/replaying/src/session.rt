@@ -33,7 +33,7 @@ fn push_open(out: &mut String, number: u8) -> Result<(), AllocError>
 }
 
 /// Makes the calls among some lines on a session just made, and tells their answers.
-pub fn push_session<B: RuleBook + Drop>(
+pub(crate) fn push_session<B: RuleBook + Drop>(
     heap: Global,
     out: &mut String,
     lengths: &[u8],
