@@ -21,7 +21,7 @@ pub fn play_usual<'a, B: RuleBook>(
     steps: &mut [Step],
 ) -> Session<'a, B, LastConflict<Weighted>>
     ensures runs { PlaysByRuns usual (sheet lengths.now (B.RuleBook.meaning book)) [] (fresh usual_start) steps.old steps.new (lasting_of result) }
-    ensures worked { (x : Example) → Worked x lengths.now (B.RuleBook.meaning book) steps.old steps.new result.table.weights }
+    ensures worked { (x : Example) → Worked x lengths.now (B.RuleBook.meaning book) steps.old steps.new (lasting_of result).weights }
 {
     play(lengths, book, LastConflict::new(Weighted), steps)
 }
