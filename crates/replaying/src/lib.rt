@@ -4,5 +4,5 @@
 mod answer;
 mod lines;
 pub mod replay;
-mod session;
+mod session_text;
 mod steps;

@@ -6,7 +6,7 @@ ghost use Rattle.sheet_books.specs.Books.{Holds};
 ghost use Rattle.replaying.specs.Lines.{load_line};
 ghost use Rattle.replaying.specs.Replays.{stays, AllStay, TurnedText, Sessions, no_flags, Replays};
 
-use crate::session::push_session;
+use crate::session_text::push_session;
 use load::load::load;
 use network::turned::Turned;
 use script::line::{Line, lines};

@@ -9,7 +9,7 @@ use Rattle.text.proofs.Pieces.{after}
 use Rattle.answers.specs.Answers.{usual, usual_start}
 use Rattle.replaying.specs.Lines.{open_line}
 use Rattle.replaying.specs.Sessions.{told}
-use Rattle.replaying.proofs.session.push_session.Goals as goal
+use Rattle.replaying.proofs.session_text.push_session.Goals as goal
 
 pub returns : goal.returns
 returns g c =
