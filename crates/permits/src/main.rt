@@ -83,4 +83,15 @@ mod tests {
         assert!(rt; out.as_str() == "FAULT 6 4\n");
         Ok(())
     }
+
+    #[test]
+    fn no_list(rt: HostRuntime) -> Result<(), Fail> {
+        let mut lines = Vec::new(rt.alloc());
+        for line in ["1 2 3", "4 five", "C0=1"] {
+            lines.push(String::from_str(rt.alloc(), line)?)?;
+        }
+        let out = super::answer(rt.alloc(), &lines)?;
+        assert!(rt; out.as_str() == "LIST 2\n");
+        Ok(())
+    }
 }
