@@ -1,5 +1,5 @@
 -- Fillings under the standing pins are the fillings inside the starting sets. Assumes nothing.
-use Rattle.std.proofs.Common.{◌≡◌, ℕ, zero, suc, ◌+◌, ◌^◌, ◌<◌, ◌≤◌, Bool, true, false, cond, List, ◌∷◌, length, get_or, Some, None, filter, Option, sym, refl, ap, ◌∙◌, subst, ⊎_elim, arith}
+use Rattle.std.proofs.Common.{◌≡◌, ℕ, zero, suc, ◌+◌, ◌-◌, ◌^◌, ◌<◌, ◌≤◌, Bool, true, false, cond, List, ◌∷◌, length, get_or, Some, None, filter, Option, sym, refl, ap, ◌∙◌, subst, ⊎_elim, arith}
 use Rattle.std.proofs.lemmas.Bool.{cases_lt}
 use Rattle.std.proofs.lemmas.List.FromFn.{length-map-range_with_len, get_or-map-range_with_len}
 use Rattle.std.specs.List.{range_with_len}
@@ -9,7 +9,7 @@ use Rattle.bits.proofs.Whole.{whole_has, has_whole}
 use Rattle.network.specs.Book.{Lawful}
 use Rattle.network.specs.Fillings.{Inside, Meetable}
 use Rattle.runs.specs.Law.{Ready}
-use Rattle.cores.proofs.SetFacts.{set_has}
+use Rattle.cores.proofs.SetFacts.{set_has, subset_small}
 use Rattle.calls.specs.Sheet.{Sheet, cells, places, Listed, Named, Checked.passes, Opens}
 use Rattle.calls.specs.History.{Did, standing, Valid, set_where, Filling, Fillable}
 use Rattle.calls.specs.Runs.{start_of, starts, start_after}
@@ -51,6 +51,10 @@ where_small on n r h =
     let q = set_has (filter on (range_with_len 0 n)) r h in
     let p = kept_small on 0 n q.0 q.1 in
     let e = q.2 in omega arith
+
+-- among 64 rules it is a mask of 64 bits
+pub where_low : (on : ℕ → Bool) (n : ℕ) → n ≤ 64 → set_where on n < 2 ^ 64
+where_low on n few = subset_small (set_where on n) (2 ^ 64 - 1) (λ r h. whole_has 64 r (let a = where_small on n r h in omega arith)) (omega arith)
 
 opens_listed : (s : Sheet) → Opens s → Listed s.lengths
 opens_listed s (passes l r m) = l

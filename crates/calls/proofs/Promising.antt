@@ -3,28 +3,26 @@ use Rattle.std.proofs.Common.{◌≡◌, ℕ, ◌+◌, ◌-◌, ◌*◌, ◌^◌
 use Rattle.std.proofs.lemmas.List.{length-take-le, ext_get_or}
 use Rattle.std.proofs.lemmas.Bool.{cond-true, cond-false, eq-eqb, ne_eqb, cases_eq}
 use Rattle.bits.specs.Sets.{size}
-use Rattle.bits.proofs.Whole.{whole_has}
 use Rattle.network.specs.Book.{Lawful}
 use Rattle.network.specs.Fillings.{Inside, MeetsAll, Meetable}
 use Rattle.choosers.specs.Choice.{Machine, Naming}
 use Rattle.runs.specs.declared.line.Line.{Line}
 use Rattle.runs.specs.Law.{Right, Fills}
-use Rattle.cores.specs.Core.{Core, Each, Outcome, Outcome.left, Outcome.core}
+use Rattle.cores.specs.Core.{Core, Each, Ends, Short, Outcome, Outcome.left, Outcome.core}
 use Rattle.cores.specs.Fit.{Fit, Fit.fills}
 use Rattle.cores.proofs.CoreLaw.{fit_law}
-use Rattle.cores.proofs.SetFacts.{subset_small}
 use Rattle.clash.specs.declared.fitted.Fitted.{Fitted as Values}
 use Rattle.clash.specs.Running.{Lasting}
 use Rattle.calls.specs.declared.call.Call.{Call}
 use Rattle.calls.specs.declared.step.Step.{Step}
 use Rattle.calls.specs.Answers.{Said, said}
 use Rattle.calls.specs.Sheet.{Sheet, Sizes, Opens, Judged, Judged.shut, Judged.pins, Judged.pins_no_cell, Judged.pins_no_place, Judged.frees, Judged.frees_no_cell, Judged.switches, Judged.switches_no_rule, Judged.fits, Judged.fits_short}
-use Rattle.calls.specs.History.{Did, accepted, pinned, standing, Valid, on_after, Filling, Fillable}
+use Rattle.calls.specs.History.{Did, accepted, pinned, standing, is_on, Valid, on_after, Fillable}
 use Rattle.calls.specs.Plays.{sizes, did, Makes, Makes.refused, Makes.changed, Makes.fitted, Plays, Plays.none, Plays.more}
 use Rattle.calls.specs.Promise.{lines_of, filling_of, Ended, Ended.filled, Ended.clashed, FillingOrCore, FillingsAndCores}
-use Rattle.calls.specs.Runs.{Ran, start_after, Alone, Comes, StepRuns, StepDone, PlaysByRuns}
+use Rattle.calls.specs.Runs.{Ran, start_after, Alone, Comes, FitRuns, FitLaw, StepRuns, StepDone, PlaysByRuns}
 use Rattle.calls.proofs.RunLaws.{ran_lawful, ran_fills}
-use Rattle.calls.proofs.Fillings.{starts_long, few_rules, where_small, inside_filling, met_fillable, fillable_met}
+use Rattle.calls.proofs.Fillings.{starts_long, few_rules, where_low, inside_filling, met_fillable, fillable_met}
 
 -- ---- one meaning of "some filling" for another
 module _ (F G : ℕ → Type 0) (to : (a : ℕ) → F a → G a) (from : (a : ℕ) → G a → F a) where
@@ -38,6 +36,13 @@ module _ (F G : ℕ → Type 0) (to : (a : ℕ) → F a → G a) (from : (a : �
   core_map : (on a : ℕ) → Core F on a → Core G on a
   core_map on a c = record { among = c.among; clash = λ g. c.clash (from a g); needed = λ r h. to (a - 2 ^ r) (c.needed r h) }
 
+-- ---- none, and some
+some_none : {n : ℕ} → Some n ≡ None → ⊥
+some_none {n} e = let z : ◌≡◌ {A = ℕ} 0 1 = cc in omega arith
+
+some_same : {m n : ℕ} → Some m ≡ Some n → m ≡ n
+some_same e = cc
+
 module _ {C : Type 0} (k : Machine C) (naming : Naming k) (s : Sheet) (law : Lawful s.book) where
   -- the filling that a run left is the one returned
   alone_fills : {sets f : List ℕ} {on : ℕ} {start : List ℕ} → Fills s.book start on sets → Alone sets f → length f ≡ length start → Inside f start × MeetsAll s.book on f
@@ -50,49 +55,65 @@ module _ {C : Type 0} (k : Machine C) (naming : Naming k) (s : Sheet) (law : Law
   pub first_run : {start : List ℕ} {on : ℕ} {x y : Lasting C} {ls : List Line} {sets : List ℕ} → Fit (Ran k s.book start) on x ls (left sets) y → Fills s.book start on sets
   first_run {start} {sets = sets} (fills g) = subst (λ (a : ℕ). Fills s.book start a sets) g.lists (ran_fills k naming s.book law start g.run g.says)
 
-  module _ (opens : Opens s) (h : List Did) (valid : Valid s.lengths (standing h)) where
-    small_on : on_after s h < 2 ^ 64
-    small_on = subset_small (on_after s h) (2 ^ 64 - 1) (λ r i. whole_has 64 r (let a = where_small (Rattle.calls.specs.History.is_on h) s.book.count r i in let b = few_rules s opens in omega arith)) (omega arith)
+  -- the runs of a Fit come to a filling or a core
+  pub runs_law : {start : List ℕ} {on : ℕ} {x y : Lasting C} {log : List Line} {filling : List ℕ} {f : Values} → on < 2 ^ 64
+      → FitRuns k s.book start on x log filling f y → FitLaw s.book start on log filling f
+  runs_law {start} {on} {log = log} {filling = filling} {f = f} small d =
+      let l = fit_law (Ran k s.book start) (Meetable s.book start) (ran_lawful k naming s.book law start) small d.runs in
+      let count : length (take f.lines log) ≡ f.lines = length-take-le f.lines log d.counted in
+      record { filled = filled_by d.out d.runs d.comes l.ends count; clashed = clashed_by d.out d.comes l.ends count; right = l.lines }
+    where
+      filled_by : {x y : Lasting C} {ls : List Line} (out : Outcome (List ℕ)) → Fit (Ran k s.book start) on x ls out y → Comes out f (take (length start) filling)
+          → Ends (Meetable s.book start) on (length ls) out → length ls ≡ f.lines → f.core ≡ None
+          → Inside (take (length start) filling) start × MeetsAll s.book on (take (length start) filling) × (f.lines ≡ 1)
+      filled_by (left sets) p c e count empty =
+          let fl = first_run p in
+          let q = alone_fills fl c.1 (c.1.there.long ∙ sym fl.left.long ∙ fl.inside.long) in
+          (q.0, q.1, sym count ∙ e.1)
+      filled_by (core found) p c e count empty = absurd (some_none (sym c ∙ empty))
 
-    ends : {x y : Lasting C} {a : Step} {f : Values} (out : Outcome (List ℕ)) → Fit (Ran k s.book (start_after s h)) (on_after s h) x (lines_of a f) out y
-        → Comes out f (take (length (start_after s h)) (vec_items a.buffers.filling)) → f.lines ≤ length (vec_items a.buffers.log) → Ended s h a f
-    ends {a = a} {f = f} (left sets) p c n =
-        let long = starts_long s.lengths (standing h) in
-        let count : length (lines_of a f) ≡ f.lines = length-take-le f.lines (vec_items a.buffers.log) n in
-        let fl = first_run p in
-        let same : take (length (start_after s h)) (vec_items a.buffers.filling) ≡ filling_of s a = ap (λ (x : ℕ). take x (vec_items a.buffers.filling)) long in
-        let alone : Alone sets (filling_of s a) = subst (Alone sets) same c.1 in
-        let wide : length (filling_of s a) ≡ length (start_after s h) = alone.there.long ∙ sym fl.left.long ∙ fl.inside.long in
-        let q = alone_fills fl alone wide in
-        let l = fit_law (Ran k s.book (start_after s h)) (Meetable s.book (start_after s h)) (ran_lawful k naming s.book law (start_after s h)) small_on p in
-        filled (record { filling = inside_filling s opens h valid (filling_of s a) q.0; meets = q.1; one = sym count ∙ l.ends.1; no_core = c.0 })
-    ends {a = a} {f = f} (core found) p c n =
-        let count : length (lines_of a f) ≡ f.lines = length-take-le f.lines (vec_items a.buffers.log) n in
-        let l = fit_law (Ran k s.book (start_after s h)) (Meetable s.book (start_after s h)) (ran_lawful k naming s.book law (start_after s h)) small_on p in
-        let d = core_map (Meetable s.book (start_after s h)) (Fillable s h) (met_fillable s opens h valid) (fillable_met s opens h valid) (on_after s h) found l.ends.1 in
+      clashed_by : {n : ℕ} (out : Outcome (List ℕ)) → Comes out f (take (length start) filling) → Ends (Meetable s.book start) on n out → n ≡ f.lines
+          → (c : ℕ) → f.core ≡ Some c → (Meetable s.book start on → ⊥) × Core (Meetable s.book start) on c × Short (size on) (size c) f.lines
+      clashed_by (left sets) c e count a is = absurd (some_none (sym is ∙ c.0))
+      clashed_by {n} (core found) c e count a is =
+          let same : found ≡ a = some_same (sym c ∙ is) in
+          subst (λ (a : ℕ). (Meetable s.book start on → ⊥) × Core (Meetable s.book start) on a × Short (size on) (size a) f.lines) same
+          (e.0, e.1, λ L h. subst (λ (n : ℕ). n ≤ size on + 2 + size found * L) count (e.2 L h))
+
+  module _ (opens : Opens s) (h : List Did) (valid : Valid s.lengths (standing h)) where
+    -- what a Fit comes to, by the fillings under the standing pins
+    ended : {a : Step} {f : Values} (o : Option ℕ) → f.core ≡ o → FitLaw s.book (start_after s h) (on_after s h) (vec_items a.buffers.log) (vec_items a.buffers.filling) f → Ended s h a f
+    ended {a = a} {f = f} None e l =
+        let q = l.filled e in
+        let same : take (length (start_after s h)) (vec_items a.buffers.filling) ≡ filling_of s a = ap (λ (n : ℕ). take n (vec_items a.buffers.filling)) (starts_long s.lengths (standing h)) in
+        filled (record {
+          filling = inside_filling s opens h valid (filling_of s a) (subst (λ (x : List ℕ). Inside x (start_after s h)) same q.0);
+          meets = subst (MeetsAll s.book (on_after s h)) same q.1;
+          one = q.2;
+          no_core = e;
+        })
+    ended (Some found) e l =
+        let q = l.clashed found e in
         clashed (record {
           rules = found;
-          is = c;
-          never = λ q. l.ends.0 (fillable_met s opens h valid (on_after s h) q);
-          core = d;
-          few = λ L e. subst (λ (n : ℕ). n ≤ size (on_after s h) + 2 + size found * L) count (l.ends.2 L e);
+          is = e;
+          never = λ p. q.0 (fillable_met s opens h valid (on_after s h) p);
+          core = core_map (Meetable s.book (start_after s h)) (Fillable s h) (met_fillable s opens h valid) (fillable_met s opens h valid) (on_after s h) found q.1;
+          few = q.2;
         })
 
     fit_promise : {x y : Lasting C} {b a : Step} {f : Values} → StepDone k s h x b a f y → FillingOrCore s h b a f
     fit_promise {b = b} {a = a} {f = f} d =
-        let l = fit_law (Ran k s.book (start_after s h)) (Meetable s.book (start_after s h)) (ran_lawful k naming s.book law (start_after s h)) small_on d.0.runs in
+        let l = runs_law (where_low (is_on h) s.book.count (few_rules s opens)) d.0 in
         record {
-          ended = ends d.0.out d.0.runs d.0.comes d.0.counted;
+          ended = ended f.core refl l;
           counted = d.0.counted;
-          right = each_map (Meetable s.book (start_after s h)) (Fillable s h) (met_fillable s opens h valid) (fillable_met s opens h valid) (lines_of a f) l.lines;
+          right = each_map (Meetable s.book (start_after s h)) (Fillable s h) (met_fillable s opens h valid) (fillable_met s opens h valid) (lines_of a f) l.right;
           keeps = d.1;
           sized = d.2;
         }
 
 -- ---- what stands is valid
-some_none : {n : ℕ} → Some n ≡ None → ⊥
-some_none {n} e = let z : ◌≡◌ {A = ℕ} 0 1 = cc in omega arith
-
 -- after a call that is not refused, the pins are places of their lists
 valid_changed : (s : Sheet) (z : Sizes) (p : ℕ → Option ℕ) {call : Call} {n : ℕ} → Valid s.lengths p → Judged s z call n → n ≡ 0 → Valid s.lengths (λ c. pinned call c (p c))
 valid_changed s z p valid (shut x) e = absurd (omega arith)

@@ -16,9 +16,9 @@ use Rattle.clash.specs.Running.{lasting}
 use Rattle.clash.specs.Logged.{Answers, Logged}
 use Rattle.calls.specs.Sheet.{cells, Opens}
 use Rattle.calls.specs.History.{Valid}
-use Rattle.calls.specs.Runs.{Ran, Alone, Comes}
-use Rattle.calls.proofs.Fillings.{ready, starts_long, where_small}
-use Rattle.calls.proofs.Promising.{first_run}
+use Rattle.calls.specs.Runs.{Ran, Alone, Comes, FitRuns, FitLaw}
+use Rattle.calls.proofs.Fillings.{ready, few_rules, starts_long, where_small, where_low}
+use Rattle.calls.proofs.Promising.{first_run, runs_law}
 use Rattle.session.specs.Pins.{held, LowestByte}
 use Rattle.session.specs.declared.session.Session.{Session}
 use Rattle.session.specs.Calls.{sheet_of, lasting_of, with_lasting, table_start, table_on, Solved}
@@ -84,12 +84,20 @@ module _ {B C : Type 0} (meaning : B → BookMeaning) (k : Machine C) (naming : 
         (a.0, subst₂ (λ (x : List ℕ) (y : ℕ). Alone x (take y bytes)) (sym a.1) (same ∙ sym the_long) (lowest_filling bytes q room low))
     comes_filled bytes room low (core d) r a = a
 
+    -- its runs, and with them what these come to
+    done : (bytes : List ℕ) → Comes p.out f (take (length the_start) bytes) → FitRuns k (meaning s.book) the_start the_on (lasting_of s) log' bytes f (lasting c w)
+    done bytes comes = record { out = p.out; runs = runs_are; comes = comes; counted = p.inside }
+
+    law_of : (bytes : List ℕ) → Comes p.out f (take (length the_start) bytes) → FitLaw (meaning s.book) the_start the_on log' bytes f
+    law_of bytes comes = runs_law k naming (sheet_of meaning s) law (where_low (λ r. get_or s.table.switches r false) (meaning s.book).count (few_rules (sheet_of meaning s) opens)) (done bytes comes)
+
     pub solved_filled : (filling bytes : List ℕ) → f.core ≡ None → length sets ≤ length bytes
         → ((c : ℕ) → c < length sets → LowestByte (get_or sets c 0) (get_or bytes c 0)) → drop (length sets) bytes ≡ drop (length sets) filling
         → Solved meaning k s log filling f (with_lasting s (lasting c w)) log' bytes
     solved_filled filling bytes v room low later = record {
       kept = refl;
-      runs = record { out = p.out; runs = runs_are; comes = comes_filled bytes room low p.out runs_are p.answers; counted = p.inside };
+      runs = done bytes (comes_filled bytes room low p.out runs_are p.answers);
+      law = law_of bytes (comes_filled bytes room low p.out runs_are p.answers);
       keeps = record { rest = p.keeps; later = λ _. subst (λ (n : ℕ). drop n bytes ≡ drop n filling) same later; bytes = λ some. absurd (some v) };
     }
 
@@ -100,6 +108,7 @@ module _ {B C : Type 0} (meaning : B → BookMeaning) (k : Machine C) (naming : 
     pub solved_clashed : (filling : List ℕ) → f.core ≢ None → Solved meaning k s log filling f (with_lasting s (lasting c w)) log' filling
     solved_clashed filling ne = record {
       kept = refl;
-      runs = record { out = p.out; runs = runs_are; comes = comes_clashed ne (take (length the_start) filling) p.out p.answers; counted = p.inside };
+      runs = done filling (comes_clashed ne (take (length the_start) filling) p.out p.answers);
+      law = law_of filling (comes_clashed ne (take (length the_start) filling) p.out p.answers);
       keeps = record { rest = p.keeps; later = λ z. absurd (ne z); bytes = λ _. refl };
     }

@@ -12,7 +12,7 @@ use Rattle.calls.specs.Answers.{said, returned}
 use Rattle.calls.specs.Sheet.{Sheet, sheet, cells, Sizes, Judged}
 use Rattle.calls.specs.History.{set_where}
 use Rattle.calls.specs.Promise.{Keeps}
-use Rattle.calls.specs.Runs.{starts, FitRuns}
+use Rattle.calls.specs.Runs.{starts, FitRuns, FitLaw}
 use Rattle.session.specs.Pins.{held}
 use Rattle.session.specs.declared.table.Table.{Table}
 use Rattle.session.specs.declared.session.Session.{Session}
@@ -61,10 +61,11 @@ table_start lengths t = starts lengths (λ c. held (slice_index lengths c) (slic
 abbrev pub table_on : BookMeaning → Table → ℕ
 table_on m t = set_where (λ r. get_or t.switches r false) m.count
 
--- a Fit that is not refused: its runs change the chooser and the weights alone, and it returns what they come to
+-- a Fit that is not refused: its runs change the chooser and the weights alone, and it returns what they come to, which is a filling or a core as promised
 pub record Solved {B C : Type 0} (meaning : B → BookMeaning) (k : Machine C) (s : Session B C) (log : List Line) (filling : List ℕ) (f : Values) (t : Session B C) (log' : List Line) (filling' : List ℕ) : Type 0 where
   pub kept : t ≡ with_lasting s (lasting_of t)
   pub runs : FitRuns k (meaning s.book) (table_start s.lengths.now s.table) (table_on (meaning s.book) s.table) (lasting_of s) log' filling' f (lasting_of t)
+  pub law : FitLaw (meaning s.book) (table_start s.lengths.now s.table) (table_on (meaning s.book) s.table) log' filling' f
   pub keeps : Keeps (cells (sheet_of meaning s)) f log log' filling filling'
 
 abbrev pub sizes_of : List ℕ → List Line → List ℕ → Sizes
