@@ -1,5 +1,5 @@
 //! What the second phase asks of a run.
-ghost use Rattle.std.specs.Prelude.{◌≡◌, ℕ, List, Decides};
+ghost use Rattle.std.specs.Prelude.{◌≡◌, ℕ, ◌↔◌, List, Decides, IsSome, IfSome, IfNone};
 ghost use Rattle.runs.specs.declared.line.Line.{Line};
 ghost use Rattle.clash.specs.Running.{Lasting, lasting, Laws};
 ghost use Rattle.readiness.specs.Room.{Room};
@@ -31,7 +31,7 @@ pub trait Runner<C>: Sized {
     fn is_ready(&self, listed: u64) -> bool
         ensures { Decides result (ready self.now listed) };
 
-    /// A run that lists some rules.
+    /// A run that lists some rules, where these may be listed and it has its buffers; else `None`, and nothing is touched.
     // The host lends each buffer, so they come one by one.
     fn run(
         &self,
@@ -40,9 +40,9 @@ pub trait Runner<C>: Sized {
         listed: u64,
         work: &mut [u64],
         sets: &mut [u64],
-    ) -> Line
-        requires ready { ready self.now listed }
-        requires room { Room (cells self.now) weights.old work.old sets.old }
-        ensures steps { runs self.now (lasting chooser.old weights.old) result sets.new (lasting chooser.new weights.new) }
-        ensures lists { result.listed ≡ listed };
+    ) -> Option<Line>
+        ensures made { IsSome result ↔ ready self.now listed × Room (cells self.now) weights.old work.old sets.old }
+        ensures untouched { IfNone result ((chooser.new ≡ chooser.old) × (weights.new ≡ weights.old) × (work.new ≡ work.old) × (sets.new ≡ sets.old)) }
+        ensures steps { IfSome result (λ l. runs self.now (lasting chooser.old weights.old) l sets.new (lasting chooser.new weights.new)) }
+        ensures lists { IfSome result (λ l. l.listed ≡ listed) };
 }

@@ -45,10 +45,7 @@ impl<B: RuleBook, C: Chooser> Runner<C> for Task<'_, B> {
         listed: u64,
         work: &mut [u64],
         sets: &mut [u64],
-    ) -> Line {
-        let Some(line) = run(self.book, chooser, weights, self.start, listed, work, sets) else {
-            unreachable!()
-        };
-        line
+    ) -> Option<Line> {
+        run(self.book, chooser, weights, self.start, listed, work, sets)
     }
 }
