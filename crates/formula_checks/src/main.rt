@@ -1,4 +1,4 @@
-//! Reads lines of a number of cells and a formula, and prints for each `read` or the formula's first fault, its number and its offset.
+//! Reads lines of a number of cells and a formula, and prints for each `read` or the formula's first fault, its number and its offset. Uses `reader` and `formulas`.
 #![tactic(auto)]
 
 use anyhow::anyhow;

@@ -110,8 +110,8 @@ fn turn(rest: &[&[u8]]) -> Option<Line>
     Some(Line::Turn(flags))
 }
 
-#[tactic(auto, using(crate::proofs::Reading::comment_line))]
 /// What the words of a line say, of which this is the first.
+#[tactic(auto, using(crate::proofs::Reading::comment_line))]
 fn said(first: &[u8], rest: &[&[u8]]) -> Option<Line>
     ensures { Decided (first.now ∷ map (λ w. w.now) rest.now) result }
 {
