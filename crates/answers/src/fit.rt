@@ -12,7 +12,7 @@ use choosers::weighted::Weighted;
 use network::book::RuleBook;
 use opening::check::check;
 use play::play;
-use report::{write_clash, write_fits};
+use report::{push_clash, push_fits};
 use runs::line::{Line, Verdict};
 use std::alloc::{AllocError, Global};
 use text::push_fault;
@@ -43,8 +43,8 @@ fn push_answer(out: &mut String, cells: u8, numbers: &[i32], step: &Step) -> Res
 {
     match step.answer {
         Answer::Fitted(fitted) => match fitted.core {
-            None => write_fits(out, fitted.lines, cells, numbers, &step.buffers.filling),
-            Some(core) => write_clash(out, fitted.lines, core),
+            None => push_fits(out, fitted.lines, cells, numbers, &step.buffers.filling),
+            Some(core) => push_clash(out, fitted.lines, core),
         },
         Answer::Refused(refusal) => push_fault(out, refusal.number(), 0),
         Answer::Done => Ok(()),

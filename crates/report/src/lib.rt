@@ -1,15 +1,12 @@
 //! The text that tells a Fit's answer. Uses `bits`, `formulas` and `text`.
 #![tactic(auto)]
 
-ghost use Rattle.std.specs.Prelude.{◌≡◌, ℕ, ◌+◌, ◌*◌, ◌<◌, [], ◌++◌, get_or, pos, if◌then◌else◌, OnOk, slice_index, slice_index_or, string_bytes, Ok};
-ghost use Rattle.std.specs.Fn.{FnOnceReturnsAtMut};
+ghost use Rattle.std.specs.Prelude.{◌≡◌, ℕ, ◌+◌, ◌*◌, ◌<◌, [], ◌++◌, get_or, pos, if◌then◌else◌, OnOk, slice_index, slice_index_or, string_bytes};
 ghost use Rattle.bits.specs.Sets.{in?};
 ghost use Rattle.report.specs.Report.{cell_line, fits_text, rule_line, clash_text};
-ghost use Rattle.text.specs.Text.{fault_text};
 
 use bits::has;
 use std::alloc::AllocError;
-use text::push_fault as write_fault;
 
 /// The number at a place of a cell's list, 0 where it is missing; the lists have 64 places each.
 // `formula_book` has the same line in a method of its book; of the crates below both none is about lists.
@@ -38,7 +35,7 @@ fn push_cell(out: &mut String, cell: u8, number: i32) -> Result<(), AllocError>
 
 /// `FITS` and the number of lines, then each cell with the number at its place.
 #[tactic(auto, using(text::proofs::Decimals::decimal_numeral))]
-pub fn write_fits(
+pub fn push_fits(
     out: &mut String,
     lines: usize,
     cells: u8,
@@ -68,7 +65,7 @@ fn push_rule(out: &mut String, core: u64, rule: u8) -> Result<(), AllocError>
 
 /// `CLASH` and the number of lines, then the rules of the core, rising.
 #[tactic(auto, using(text::proofs::Decimals::decimal_numeral))]
-pub fn write_clash(out: &mut String, lines: usize, core: u64) -> Result<(), AllocError>
+pub fn push_clash(out: &mut String, lines: usize, core: u64) -> Result<(), AllocError>
     ensures { OnOk result (string_bytes out.new ≡ string_bytes out.old ++ clash_text lines core) }
 {
     writeln!(out, "CLASH {lines}")?;
@@ -76,47 +73,6 @@ pub fn write_clash(out: &mut String, lines: usize, core: u64) -> Result<(), Allo
         push_rule(out, core, rule)?;
     }
     Ok(())
-}
-
-/// Appends the bytes of the text that is written.
-// The caller's bytes need not be text, so what is written has a `String` of its own.
-fn push_text<F>(out: &mut Vec<u8>, write: F) -> Result<(), AllocError>
-where
-    F: FnOnce(&mut String) -> Result<(), AllocError>,
-    requires { F.IsAlwaysCallable write }
-    ensures { OnOk result ((empty : _) × (string_bytes empty ≡ []) × (text : _) × FnOnceReturnsAtMut F.FnOnce write empty (Ok tt) text
-        × (out.new.items ≡ out.old.items ++ string_bytes text)) }
-{
-    let mut text = String::new(*out.allocator());
-    write(&mut text)?;
-    out.extend_from_slice(text.as_bytes())
-}
-
-/// The line of a fault, as bytes.
-pub fn push_fault(out: &mut Vec<u8>, number: u8, offset: usize) -> Result<(), AllocError>
-    ensures { OnOk result (out.new.items ≡ out.old.items ++ fault_text number offset) }
-{
-    push_text(out, |text| write_fault(text, number, offset))
-}
-
-/// The lines of `write_fits`, as bytes.
-pub fn push_fits(
-    out: &mut Vec<u8>,
-    lines: usize,
-    cells: u8,
-    numbers: &[i32],
-    filling: &[u8],
-) -> Result<(), AllocError>
-    ensures { OnOk result (out.new.items ≡ out.old.items ++ fits_text lines cells (λ c. get_or numbers.now (64 * c + slice_index filling.now c) (pos 0))) }
-{
-    push_text(out, |text| write_fits(text, lines, cells, numbers, filling))
-}
-
-/// The lines of `write_clash`, as bytes.
-pub fn push_clash(out: &mut Vec<u8>, lines: usize, core: u64) -> Result<(), AllocError>
-    ensures { OnOk result (out.new.items ≡ out.old.items ++ clash_text lines core) }
-{
-    push_text(out, |text| write_clash(text, lines, core))
 }
 
 #[cfg(test)]
@@ -129,7 +85,7 @@ mod tests {
     #[test]
     fn fits_written(rt: HostRuntime) -> Result<(), Fail> {
         let mut out = String::new(rt.alloc());
-        super::write_fits(&mut out, 1, 1, &NUMBERS, &[2])?;
+        super::push_fits(&mut out, 1, 1, &NUMBERS, &[2])?;
         assert!(rt; out.as_str() == "FITS 1\nC0=5\n");
         Ok(())
     }
@@ -137,32 +93,8 @@ mod tests {
     #[test]
     fn clash_written(rt: HostRuntime) -> Result<(), Fail> {
         let mut out = String::new(rt.alloc());
-        super::write_clash(&mut out, 3, 1)?;
-        assert!(rt; out.as_str() == "CLASH 3\nrule 0\n");
-        Ok(())
-    }
-
-    #[test]
-    fn fault_bytes(rt: HostRuntime) -> Result<(), Fail> {
-        let mut out = Vec::new(rt.alloc());
-        super::push_fault(&mut out, 6, 4)?;
-        assert!(rt; out.as_slice() == b"FAULT 6 4\n".as_slice());
-        Ok(())
-    }
-
-    #[test]
-    fn fits_bytes(rt: HostRuntime) -> Result<(), Fail> {
-        let mut out = Vec::new(rt.alloc());
-        super::push_fits(&mut out, 1, 1, &NUMBERS, &[2])?;
-        assert!(rt; out.as_slice() == b"FITS 1\nC0=5\n".as_slice());
-        Ok(())
-    }
-
-    #[test]
-    fn clash_bytes(rt: HostRuntime) -> Result<(), Fail> {
-        let mut out = Vec::new(rt.alloc());
         super::push_clash(&mut out, 3, 1)?;
-        assert!(rt; out.as_slice() == b"CLASH 3\nrule 0\n".as_slice());
+        assert!(rt; out.as_str() == "CLASH 3\nrule 0\n");
         Ok(())
     }
 }

@@ -5,7 +5,7 @@ use Rattle.bits.specs.Sets.{below}
 use Rattle.text.proofs.Decimals.{decimal_numeral}
 use Rattle.report.specs.Report.{rule_line}
 use Rattle.report.proofs.Lines.{after_first, rules_more, rules_none, rules_all}
-use Rattle.report.proofs.write_clash.Goals as goal
+use Rattle.report.proofs.push_clash.Goals as goal
 
 pub loop-rule-init : goal.loop-rule-init
 loop-rule-init c = rules_none rule_line c.args.core (string_bytes c.writeln.new.self)

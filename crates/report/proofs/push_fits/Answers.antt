@@ -4,7 +4,7 @@ use Rattle.formulas.specs.Tree.{numeral}
 use Rattle.text.proofs.Decimals.{decimal_numeral}
 use Rattle.report.specs.Report.{cell_line}
 use Rattle.report.proofs.Lines.{after_first, cells_more, cells_none}
-use Rattle.report.proofs.write_fits.Goals as goal
+use Rattle.report.proofs.push_fits.Goals as goal
 
 -- the line of a cell
 abbrev line : List ℤ → List ℕ → ℕ → List ℕ
