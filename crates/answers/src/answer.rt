@@ -1,4 +1,4 @@
-//! The text that `fit` prints, from the bytes of a file.
+//! What `fit` prints for a file.
 ghost use Rattle.std.specs.Prelude.{◌≡◌, ℕ, List, ◌++◌, IfOk, OnOk, string_bytes};
 ghost use Rattle.sheets.specs.Sheet.{Sheet};
 ghost use Rattle.sheets.specs.Stored.{held, Enough};

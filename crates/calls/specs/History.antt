@@ -31,12 +31,12 @@ switched (Free cell) r was = was
 switched (Switch rule on) r was = cond (rule == r) on was
 switched Fit r was = was
 
--- the standing pin of the cell c after some calls, the latest first: the place of its latest Pin not refused, unless a Free of it, not refused, came since
+-- the standing pin of the cell c after some calls, the latest first: an accepted Pin of the cell sets it, an accepted Free takes it off, and all else leaves it
 abbrev pub standing : List Did → ℕ → Option ℕ
 standing [] c = None
 standing (d ∷ h) c = cond (accepted d) (pinned d.call c (standing h c)) (standing h c)
 
--- the rule r is on, unless its latest Switch not refused set it off
+-- the rule r is on at first, and is set on or off by each accepted Switch of it
 abbrev pub is_on : List Did → ℕ → Bool
 is_on [] r = true
 is_on (d ∷ h) r = cond (accepted d) (switched d.call r (is_on h r)) (is_on h r)

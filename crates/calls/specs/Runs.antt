@@ -24,7 +24,7 @@ pub record Ran {C : Type 0} (k : Machine C) (m : BookMeaning) (start : List ℕ)
   pub ready : Ready m start l.listed
   pub run : Run k m start l.listed s.chooser s.weights l t.chooser t.weights sets
 
--- what a cell starts with: its whole list, or its pin alone
+-- what a cell starts with: all places of its list; where it is pinned, that place and no other
 abbrev pub start_of : ℕ → Option ℕ → ℕ
 start_of places None = 2 ^ places - 1
 start_of places (Some v) = 2 ^ v

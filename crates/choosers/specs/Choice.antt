@@ -10,7 +10,7 @@ no_figure = record { places = 0; degree = 0 }
 abbrev pub figure : List Figure → ℕ → Figure
 figure fs c = slice_index_or fs c no_figure
 
--- the cell is open: two or more of its places remain; only the first 64 figures are cells
+-- the cell is open: two or more of its places remain; figures after the 64th belong to no cell
 abbrev pub Open : List Figure → ℕ → Type 0
 Open fs c = (c < 64) × (1 < (figure fs c).places)
 
@@ -18,15 +18,15 @@ Open fs c = (c < 64) × (1 < (figure fs c).places)
 abbrev pub open? : List Figure → ℕ → Bool
 open? fs c = nat_lt c 64 && nat_lt 1 (figure fs c).places
 
--- an open cell, or 255 if none is
+-- the number of an open cell; where no cell is open, 255
 abbrev pub Named : List Figure → ℕ → Type 0
 Named fs c = Open fs c ⊎ ((c ≡ 255) × ((k : ℕ) → Open fs k → ⊥))
 
--- a chooser's meaning: what it names at any figures, and what it becomes when told; S is its own state
+-- a chooser's meaning, where S is its own state: the cell that it names in a state at some figures, and its state after an event
 pub record Machine (S : Type 0) : Type 0 where
   pub names : S → List Figure → ℕ
   pub told : S → Event → S
 
--- the law of choosers: in any state and at any figures it names an open cell, or 255 if none is
+-- the law of choosers, in any state and at any figures: the cell named is open, and 255 is named where none is
 pub record Naming {S : Type 0} (m : Machine S) : Type 0 where
   pub named : (s : S) (fs : List Figure) → Named fs (m.names s fs)

@@ -28,13 +28,13 @@ impl Figure {
 
 /// A way to choose the next cell to try.
 pub trait Chooser: Sized {
-    /// What it names at any figures, and what it becomes when told.
+    /// The cell that it names in each state at any figures, and its state after each event.
     ghost meaning: { Machine Self };
 
-    /// It names an open cell, or 255 if none is.
+    /// The cell that it names is open; where none is, it names 255.
     ghost laws: { Naming meaning };
 
-    /// An open cell, or 255 if none is.
+    /// The open cell that it names, and 255 where no cell is open.
     // A number and no `Option`: this one is promised to hosts.
     fn choose(&self, figures: &[Figure]) -> u8
         ensures { result ≡ meaning.names self.now figures.now };

@@ -1,4 +1,4 @@
-//! The open cell with the fewest places.
+//! Open cells by their number of places.
 ghost use Rattle.std.specs.Prelude.{◌≡◌, length};
 ghost use Rattle.choosers.specs.Choice.{Machine, Naming};
 ghost use Rattle.choosers.specs.Kinds.{pick, fewer, Fewer, Chosen};
@@ -7,7 +7,7 @@ ghost use Rattle.choosers.specs.KindLaws.{pick_named};
 use crate::best::{Preference, best_open};
 use crate::chooser::{Chooser, Event, Figure};
 
-/// Names the open cell with the fewest places, the lowest of those.
+/// Names, of the open cells, that with the smallest number of places; of several, the lowest.
 #[derive(Clone, Copy, Debug)]
 pub struct Fewest;
 

@@ -4,7 +4,7 @@ ghost use Rattle.choosers.specs.Choice.{open?};
 
 use crate::chooser::Figure;
 
-/// Whether two or more places of a cell remain; only the first 64 figures are cells.
+/// Whether two or more places of a cell remain; figures after the 64th belong to no cell.
 pub fn is_open(figures: &[Figure], cell: u8) -> bool
     ensures { result ≡ open? figures.now cell }
 {

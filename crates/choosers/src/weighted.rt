@@ -1,4 +1,4 @@
-//! The open cell with the smallest quotient of places by weighted degree.
+//! Open cells by their number of places and their weighted degree.
 ghost use Rattle.std.specs.Prelude.{◌≡◌, length};
 ghost use Rattle.choosers.specs.Choice.{Machine, Naming};
 ghost use Rattle.choosers.specs.Kinds.{pick, lighter, Lighter, Chosen};
@@ -7,7 +7,7 @@ ghost use Rattle.choosers.specs.KindLaws.{pick_named};
 use crate::best::{Preference, best_open};
 use crate::chooser::{Chooser, Event, Figure};
 
-/// Names the open cell with the smallest quotient of places by weighted degree, the lowest of those; degree 0 counts as the largest quotient.
+/// Names, of the open cells, that with the smallest number of places divided by weighted degree; of several, the lowest. One of degree 0 goes after all others.
 #[derive(Clone, Copy, Debug)]
 pub struct Weighted;
 

@@ -46,7 +46,7 @@ impl<T: Runner<C>, C> CoreSearch<'_, '_, T, C> {
         line
     }
 
-    /// Runs the used rules until a run has used every rule that it listed; these are the candidates for the core.
+    /// Runs what the run before used, as long as that was not all that it listed; the rules of the last run are the candidates for the core.
     fn shrink(&mut self, opening: Line) -> u64
         requires ready { T.Runner.ready self.old.runner.now opening.listed }
         requires inside { Subset opening.used opening.listed }

@@ -27,13 +27,13 @@ module _ {S O : Type 0} (R : S → Line → O → S → Type 0) where
     pub lists : l.listed ≡ a
     pub says : l.verdict ≡ v
 
-  -- after the line l: runs of the used rules, until a run has used every rule that it listed; these are the candidates
+  -- after the line l: runs of what the run before used, as long as that was not all that it listed; the rules of the last run are the candidates
   pub data Shrinks : Line → S → List Line → ℕ → S → Type 0 where
     all : {s : S} {l : Line} → l.used ≡ l.listed → Shrinks l s [] l.listed s
     fewer : {c : ℕ} {s t u : S} {o : O} {l m : Line} {ls : List Line} → l.used ≢ l.listed
         → Gives l.used Unmet s m o t → Shrinks m t ls c u → Shrinks l s (m ∷ ls) c u
 
-  -- the least j for which the found rules and the first j candidates clash, sought by halving between two bounds until they meet: each middle is a run
+  -- the smallest j such that the found rules clash together with the candidates up to the j-th, sought by halving between two bounds until they meet: each middle is a run
   pub data Halves (found : ℕ) (cs : List ℕ) : ℕ → ℕ → S → List Line → ℕ → S → Type 0 where
     met : {lo hi : ℕ} {s : S} → lo ≡ hi → Halves found cs lo hi s [] lo s
     down : {lo hi j : ℕ} {s t u : S} {o : O} {l : Line} {ls : List Line} → lo < hi
@@ -42,7 +42,7 @@ module _ {S O : Type 0} (R : S → Line → O → S → Type 0) where
         → Gives (with_first found ((lo + hi) / 2) cs) Met s l o t → Halves found cs ((lo + hi) / 2 + 1) hi t ls j u → Halves found cs lo hi s (l ∷ ls) j u
 
   -- rounds, with the first n candidates left: the found rules run alone, and where none meets them they are the core;
-  -- otherwise candidate j is found, and the candidates before it remain
+  -- otherwise candidate j is found, and only those before it are left
   pub data Rounds (cs : List ℕ) : ℕ → ℕ → S → List Line → ℕ → S → Type 0 where
     alone : {found n : ℕ} {s t : S} {o : O} {l : Line} → Gives found Unmet s l o t → Rounds cs found n s (l ∷ []) found t
     round : {found n j c : ℕ} {s t u w : S} {o : O} {l : Line} {ls ms : List Line} → Gives found Met s l o t

@@ -51,7 +51,7 @@ pub record TooDeep (s : List ℕ) (k : ℕ) : Type 0 where
 abbrev pub NoDigitBefore : List ℕ → ℕ → Type 0
 NoDigitBefore s k = (j : ℕ) → k ≡ j + 1 → Digit (next (drop j s)) → ⊥
 
--- a missing cell, or digits above 1,000,000 with a number's minus, if any
+-- a cell that is not there, or digits above 1,000,000; the minus of a number belongs to them
 pub data Oversize (cells : ℕ) (s : List ℕ) (k : ℕ) : List ℕ → Type 0 where
   cell : {n : ℕ} → cells ≤ n → Oversize cells s k (67 ∷ numeral n)
   digits : {n : ℕ} → 1000000 < n → NoDigitBefore s k → Oversize cells s k (numeral n)

@@ -2,7 +2,7 @@
 use Rattle.std.specs.Prelude.{◌≡◌, ℕ, ◌+◌, ◌-◌, ◌<◌, ◌≤◌, min, Bool, true, false, cond, ◌&&◌, List, [], reverse, length, get_or, ◌≢◌, nat_lt, slice_index, slice_index_or}
 use Rattle.bits.specs.Sets.{In}
 
--- a rule: its cells in order, and the rows that it permits; a row has one place for each of these cells, in their order
+-- a rule: the cells that it joins, in order, and which rows it permits; a row has a place for each of these cells, in the same order
 pub record Rule : Type 0 where
   pub cells : List ℕ
   pub permits : List ℕ → Bool
@@ -12,24 +12,24 @@ pub record BookMeaning : Type 0 where
   pub count : ℕ
   pub rule : ℕ → Rule
 
--- place v remains at cell c; a cell past the end of the sets has nothing remaining
+-- place v remains at cell c; where there is no set for the cell, no place remains
 abbrev pub Remains : List ℕ → ℕ → ℕ → Type 0
 Remains sets c v = (v < 64) × In (slice_index sets c) v
 
--- 1 to 4 different cells, numbered 0 to 63
+-- one to four cells, none twice, with numbers below 64
 pub record Sound (rule : Rule) : Type 0 where
   pub some : 1 ≤ length rule.cells
   pub few : length rule.cells ≤ 4
   pub small : (k : ℕ) → k < length rule.cells → slice_index_or rule.cells k 255 < 64
   pub apart : (j k : ℕ) → j < k → k < length rule.cells → slice_index_or rule.cells j 255 ≢ slice_index_or rule.cells k 255
 
--- at most 65,535 rules, each with 1 to 4 different cells numbered 0 to 63; a rule that is missing has no cells
+-- 65,535 rules at most, each of them sound; a rule that is missing has no cells
 pub record Lawful (m : BookMeaning) : Type 0 where
   pub bounded : m.count ≤ 65535
   pub sound : (r : ℕ) → r < m.count → Sound (m.rule r)
   pub missing : (r : ℕ) → m.count ≤ r → (m.rule r).cells ≡ []
 
--- place v at position i has support in the sets: the rule permits a row with v at i whose places all remain
+-- place v at position i has support in the sets: some permitted row has v there, and each of its places remains at its cell
 pub record Supported (rule : Rule) (i v : ℕ) (sets : List ℕ) : Type 0 where
   pub row : List ℕ
   pub wide : length row ≡ length rule.cells
@@ -60,6 +60,6 @@ turned flag m = record {
   rule = λ r. cond (flag r) (reversed (m.rule r)) (m.rule r);
 }
 
--- a flag for each of the first 64 rules
+-- the flags of the rules 0 to 63; no later rule has one
 abbrev pub flag_at : List Bool → ℕ → Bool
 flag_at flags r = nat_lt r 64 && slice_index_or flags r false

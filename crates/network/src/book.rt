@@ -2,12 +2,12 @@
 ghost use Rattle.std.specs.Prelude.{◌≡◌, ℕ, length, Decides, slice_index_or};
 ghost use Rattle.network.specs.Book.{BookMeaning, Lawful, Supported};
 
-/// A book of rules. Each rule joins 1 to 4 different cells, and permits some rows: one place for each of its cells, in order.
+/// A book of rules. A rule joins one to four cells, none of them twice, and permits some rows; a row has a place for each of the cells.
 pub trait RuleBook {
     /// What the book means.
     ghost meaning: { Self → BookMeaning };
 
-    /// At most 65,535 rules, each with 1 to 4 different cells numbered 0 to 63.
+    /// There are 65,535 rules at most, and each has one to four cells, none twice, with numbers below 64.
     ghost laws: { (b : Self) → Lawful (meaning b) };
 
     /// The number of rules.
@@ -23,7 +23,7 @@ pub trait RuleBook {
     fn cell(&self, rule: u16, position: u8) -> u8
         ensures { result ≡ slice_index_or ((meaning self.now).rule rule).cells position 255 };
 
-    /// Whether a place at a position of a rule has support in the sets: the rule permits a row with that place there whose places all remain.
+    /// Whether a place at a position has support from a rule in the sets: some permitted row has that place there, and each of its places remains.
     fn supported(&self, rule: u16, position: u8, place: u8, sets: &[u64]) -> bool
         ensures { Decides result (Supported ((meaning self.now).rule rule) position place sets.now) };
 }

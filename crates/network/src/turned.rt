@@ -6,7 +6,7 @@ ghost use Rattle.network.specs.Made.{SameMet, SamePosition};
 
 use crate::book::RuleBook;
 
-/// The book below with a flag for each of its first 64 rules: a flagged rule shows its cells last to first, and its rows with them.
+/// The book below, with flags for its rules 0 to 63: where a flag is set, the rule's cells stand in the opposite order, and the places of its rows too.
 #[derive(Drop)]
 pub struct Turned<B> {
     pub below: B,

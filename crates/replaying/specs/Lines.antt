@@ -1,4 +1,4 @@
--- The lines that replay prints: one blank parts a line's parts, and a newline byte ends each line. Assumes nothing.
+-- The lines that replay prints: the parts of a line have one blank between them, and every line ends with a newline byte. Assumes nothing.
 use Rattle.std.specs.Prelude.{ℕ, List, [], ◌∷◌, ◌++◌, take, Some, None, Option, vec_items, codes}
 use Rattle.std.specs.List.{flat_map}
 use Rattle.std.specs.Option.{unwrap_or}

@@ -1,4 +1,4 @@
-//! The text that `replay` prints, from the bytes of a file and of a script.
+//! What `replay` prints for a file and a script.
 ghost use Rattle.std.specs.Prelude.{◌≡◌, ℕ, ◌+◌, ◌^◌, ◌<◌, false, List, ◌++◌, length, take, slice_index_or, MatchOption, IfOk, OnOk, string_bytes};
 ghost use Rattle.sheets.specs.Sheet.{Sheet};
 ghost use Rattle.sheets.specs.Stored.{held, Enough};

@@ -1,4 +1,4 @@
--- The text that tells a Fit's answer: one blank parts a line's parts, and a newline byte ends each line. Assumes nothing.
+-- The text that tells a Fit's answer: the parts of a line have one blank between them, and every line ends with a newline byte. Assumes nothing.
 use Rattle.std.specs.Prelude.{ℕ, List, [], ◌∷◌, ◌++◌, ℤ, codes}
 use Rattle.std.specs.List.{range_with_len, flat_map}
 use Rattle.bits.specs.Sets.{members}

@@ -39,7 +39,7 @@ among bytes rule row (suc n) = bytes_eq (row_at bytes rule n) row || among bytes
 abbrev pub stores : List ℕ → RowsRule → List ℕ → Bool
 stores bytes rule row = among bytes rule row rule.count
 
--- a rule of permitted rows permits exactly the rows that it stores, one of forbidden rows exactly those of its width that it does not store
+-- where a rule's rows are the permitted ones, it permits just the rows that it stores; where they are the forbidden ones, just the other rows of its width
 abbrev pub Permits : Kind → List ℕ → RowsRule → List ℕ → Type 0
 Permits Permitted bytes rule row = (j : ℕ) × (j < rule.count) × (row_at bytes rule j ≡ row)
 Permits Forbidden bytes rule row = (length row ≡ rule.width) × ((j : ℕ) → j < rule.count → row_at bytes rule j ≢ row)

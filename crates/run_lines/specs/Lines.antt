@@ -1,4 +1,4 @@
--- Lines that tell of a run: one blank parts a line's parts, and a newline byte ends each line. Assumes nothing.
+-- Lines that tell of a run: the parts of a line have one blank between them, and every line ends with a newline byte. Assumes nothing.
 use Rattle.std.specs.Prelude.{ℕ, ◌/◌, ◌%◌, false, List, [], ◌∷◌, ◌++◌, codes}
 use Rattle.std.specs.Int.{w64, to_be_bytes}
 use Rattle.std.specs.List.{flat_map}

@@ -31,7 +31,7 @@ pub record Marks (listed used used' : ℕ) : Type 0 where
   pub more : Subset used used'
   pub among : (r : ℕ) → In used' r → In used r ⊎ In listed r
 
--- after settling that holds: the sets are the largest within the starting ones in which every place has support, none is empty,
+-- after settling that holds: every place has support in these sets, and they contain all others within the starting ones of which that is true; none is empty,
 -- and no filling that meets the rules used is lost
 pub record Settled (m : BookMeaning) (listed : ℕ) (s t : State) : Type 0 where
   pub long : length t.sets ≡ length s.sets

@@ -6,7 +6,7 @@ use Rattle.script.specs.declared.line.Line.{Line}
 use Rattle.script.specs.declared.line.Line.TheVariants.{Blank, Call, Turn, NotUnderstood}
 use Rattle.script.specs.Words.{words_of, IsNumber, rule_number, cell_number}
 
--- a flag for each of the first 64 rules: set for those that are named, and for no others; a later rule has none
+-- the flags of the rules 0 to 63: set for those that are named, and for no others; no later rule has one
 abbrev pub flags_of : List (List ℕ) → List Bool
 flags_of ws = fold (λ flags w. slice_set flags (rule_number w) true) (replicate 64 false) ws
 

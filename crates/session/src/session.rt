@@ -111,7 +111,7 @@ impl<B: RuleBook, C: Chooser> Session<'_, B, C> {
     }
 
     /// Looks for a filling that keeps the pins and meets the rules that are on, or for a core of these.
-    /// It wants 4,096 numbers to work with, 450 lines and 64 bytes; a filling is written one byte a cell.
+    /// It wants 4,096 numbers to work with, 450 lines and 64 bytes; of these, a filling takes one for each cell.
     pub fn fit(
         &mut self,
         work: &mut [u64],

@@ -1,4 +1,4 @@
--- When a file is read as a sheet, and when it is refused. Assumes nothing.
+-- Which files are read, each as which sheet, and which are refused. Assumes nothing.
 use Rattle.std.specs.Prelude.{◌≡◌, ℕ, ◌+◌, ◌*◌, ◌<◌, ◌≤◌, ◌≢◌, ◌⊎◌, List, [], ◌∷◌, ◌++◌, length, ℤ}
 use Rattle.formulas.specs.declared.fault.Flaw.{Flaw}
 use Rattle.formulas.specs.Faults.{First}

@@ -8,7 +8,7 @@ use Rattle.rows.specs.declared.rule.Kind.TheVariants.{Permitted, Forbidden}
 use Rattle.formulas.specs.Tree.{Condition, text}
 use Rattle.formulas.specs.Faults.{Accepted}
 
--- a rule by its rows, which have one place for each of its cells
+-- a rule by its rows; a row has as many places as the rule has cells
 pub record RowsField : Type 0 where
   pub kind : Kind
   pub cells : List ℕ

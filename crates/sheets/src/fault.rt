@@ -17,7 +17,7 @@ pub enum Layer {
 /// A fault in the content of a field; the number is the byte of the file where it is.
 #[derive(Clone, Copy, Debug, PartialEq, Eq)]
 pub enum RuleFault {
-    /// A cell's list outside its limits, or with part of a number.
+    /// A cell's list that is not 1 to 64 different numbers within the limits.
     List(usize),
     /// A rows rule that is too short for its cells, or with a wrong kind, width, cell, row or place.
     Rows(usize),
@@ -34,7 +34,7 @@ pub enum LoadFault {
     Tag(usize),
     /// The 65th cell, or the 65th rule.
     Many(usize),
-    /// A file above 32,768 bytes, or a store below its published size.
+    /// A file that has more than 32,768 bytes, or a store that is too small.
     Size,
     /// A fault in a field's content.
     Rule(RuleFault),
