@@ -11,12 +11,13 @@ use runs::line::{Line, Verdict};
 use session::session::Session;
 use sheet_books::{books, lengths};
 use sheets::stores::{Extent, Stores};
+use std::alloc::Global;
 use std::io;
 use std::io::Read;
 use storage::Storage;
 
 /// Prints what a Fit came to.
-fn tell(rt: &HostRuntime, fitted: Fitted, filling: &[u8]) -> io::Result<()> {
+fn tell(rt: &impl Print, fitted: Fitted, filling: &[u8]) -> io::Result<()> {
     match fitted.core {
         None => for (cell, place) in filling.iter().enumerate() {
             println!(rt; "C{cell} has place {place}")?;
@@ -31,7 +32,12 @@ fn tell(rt: &HostRuntime, fitted: Fitted, filling: &[u8]) -> io::Result<()> {
 }
 
 /// Makes a session over the sheet in the stores, which stay lent to it; pins C0, and asks for a Fit.
-fn pin_and_fit(rt: &HostRuntime, stores: &Stores<'_>, extent: Extent) -> io::Result<()> {
+fn pin_and_fit(
+    rt: &impl Print,
+    heap: Global,
+    stores: &Stores<'_>,
+    extent: Extent,
+) -> io::Result<()> {
     let lists = lengths(stores, extent);
     let book = books(stores, extent);
     let mut session = Session::new(lists, book, LastConflict::new(Weighted));
@@ -45,8 +51,8 @@ fn pin_and_fit(rt: &HostRuntime, stores: &Stores<'_>, extent: Extent) -> io::Res
         used: 0,
         verdict: Verdict::Met,
     };
-    let mut work = vec![in rt.alloc(); 0u64; 4096]?;
-    let mut log = vec![in rt.alloc(); line; 450]?;
+    let mut work = vec![in heap; 0u64; 4096]?;
+    let mut log = vec![in heap; line; 450]?;
     let mut filling = [0u8; 64];
     match session.fit(&mut work, &mut log, &mut filling) {
         Ok(fitted) => tell(rt, fitted, &filling[..lists.len().min(64)]),
@@ -61,7 +67,7 @@ fn main(rt: HostRuntime) -> io::Result<()> {
     let mut storage = Storage::new(rt.alloc())?;
     let mut stores = storage.lend();
     match load(&file, &mut stores) {
-        Ok(extent) => pin_and_fit(&rt, &stores, extent),
+        Ok(extent) => pin_and_fit(&rt, rt.alloc(), &stores, extent),
         Err(fault) => println!(rt; "fault {} at {}", fault.number(), fault.offset()),
     }
 }
