@@ -13,7 +13,7 @@ use Rattle.sheets.specs.Sheet.{Sheet as Stated, GoodList}
 use Rattle.sheets.specs.Stored.{Contents}
 use Rattle.sheets.specs.Meaning.{Means, number_at}
 use Rattle.sheet_books.specs.Books.{Holds}
-use Rattle.sheet_books.proofs.Parts.{each_map}
+use Rattle.bits.proofs.Lists.{each_map}
 use Rattle.sheet_books.proofs.StoredNumbers.{spread, number_there, length_there}
 use Rattle.storage.specs.Outcome.{Outcome, too_long as long, faulty as refused}
 use Rattle.text.specs.Text.{fault_text}

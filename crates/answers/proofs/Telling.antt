@@ -15,7 +15,7 @@ use Rattle.calls.specs.History.{Did}
 use Rattle.calls.specs.Plays.{sizes, Plays, refused, changed, fitted}
 use Rattle.calls.specs.Promise.{filling_of, Ended, filled, clashed, FillingOrCore, FillingsAndCores}
 use Rattle.calls.specs.Runs.{StepRuns, PlaysByRuns, fresh}
-use Rattle.calls.proofs.Following.{judged_same, said_same}
+use Rattle.calls.proofs.Following.{judged_same, said_same, returned_same}
 use Rattle.formulas.specs.Tree.{numeral}
 use Rattle.report.specs.Report.{cell_line, fits_text}
 use Rattle.answers.specs.Answers.{fitted_text, answer_text, FitText, fits, clashes}
@@ -47,9 +47,6 @@ made : {S : Type 0} {s : Sheet} {F : List Did → S → Step → Step → Values
 made b call o enough (Plays.more {a = a} (refused j ne q w) Plays.none) = absurd (ne (judged_done call o enough j))
 made b call o enough (Plays.more {a = a} (changed j ne q w) Plays.none) = absurd (ne call)
 made b call o enough (Plays.more {t = t} {a = a} (fitted {f = f} j e q i d) Plays.none) = record { one = a; alone = refl; values = f; says = q; left = t; does = d }
-
-same_values : (f g : Values) → returned f ≡ returned g → f ≡ g
-same_values f g e = let i : Some f ≡ Some g = ap (λ (w : Said). w.values) e in cc
 
 joined_same : {X : Type 0} (f g : ℕ → List X) (a n : ℕ) → ((c : ℕ) → a ≤ c → c < a + n → f c ≡ g c) → flat_map f (range_with_len a n) ≡ flat_map g (range_with_len a n)
 joined_same f g a Prim.Native.Nat.zero h = refl
@@ -84,7 +81,7 @@ told {C} k c s number b after y call o enough promise runs a is =
     let i : r.one ≡ a = sym (is ∙ ap (λ l. get_or l 0 a) r.alone) in
     let f = p.values in
     let says : said a.answer ≡ returned f = ap (λ (x : Step). said x.answer) (sym e) ∙ p.says in
-    let v = same_values r.values f (sym r.says ∙ ap (λ (x : Step). said x.answer) i ∙ says) in
+    let v = returned_same r.values f (sym r.says ∙ ap (λ (x : Step). said x.answer) i ∙ says) in
     let promised : FillingOrCore s [] b a f = subst (λ x. FillingOrCore s [] b x f) e p.does in
     let ran : StepRuns k s [] (fresh c) a f r.left = subst (λ x. StepRuns k s [] (fresh c) a x r.left) v (subst (λ x. StepRuns k s [] (fresh c) x r.values r.left) i r.does) in
     subst (λ x. FitText k c s number (answer_text (cells s) (λ n. number n (get_or (vec_items a.buffers.filling) n 0)) x)) (sym (said_same a.answer (Fitted f) says))

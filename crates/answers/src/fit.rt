@@ -17,10 +17,9 @@ use runs::line::{Line, Verdict};
 use std::alloc::{AllocError, Global};
 use text::push_fault;
 
-/// A Fit with buffers that are long enough.
-pub fn fit_step(heap: Global) -> Result<Step, AllocError>
-    ensures one { IfOk result (λ s. OneFit (s ∷ [])) }
-    ensures sizes { IfOk result (λ s. sizes s.buffers ≡ fit_sizes) }
+/// A step that is still to make a call, with buffers that are long enough for a Fit.
+pub fn step(heap: Global, call: Call) -> Result<Step, AllocError>
+    ensures { IfOk result (λ s. (s.call ≡ call) × (sizes s.buffers ≡ fit_sizes)) }
 {
     let line = Line {
         listed: 0,
@@ -31,10 +30,18 @@ pub fn fit_step(heap: Global) -> Result<Step, AllocError>
     let log = vec![in heap; line; 450]?;
     let filling = vec![in heap; 0u8; 64]?;
     Ok(Step {
-        call: Call::Fit,
+        call,
         buffers: Buffers { work, log, filling },
         answer: Answer::Done,
     })
+}
+
+/// A Fit with buffers that are long enough.
+pub fn fit_step(heap: Global) -> Result<Step, AllocError>
+    ensures one { IfOk result (λ s. OneFit (s ∷ [])) }
+    ensures sizes { IfOk result (λ s. sizes s.buffers ≡ fit_sizes) }
+{
+    step(heap, Call::Fit)
 }
 
 /// The text of an answer.

@@ -6,10 +6,11 @@ use Rattle.std.specs.List.{range_with_len}
 use Rattle.bits.specs.Sets.{In}
 use Rattle.bits.proofs.Bits.{pow_same, has_pow}
 use Rattle.bits.proofs.Whole.{whole_has, has_whole}
+use Rattle.bits.proofs.Same.{subset_small}
+use Rattle.bits.proofs.SetOf.{set_has}
 use Rattle.network.specs.Book.{Lawful}
 use Rattle.network.specs.Fillings.{Inside, Meetable}
 use Rattle.runs.specs.Law.{Ready}
-use Rattle.cores.proofs.SetFacts.{set_has, subset_small}
 use Rattle.calls.specs.Sheet.{Sheet, cells, places, Listed, Named, Checked.passes, Opens}
 use Rattle.calls.specs.History.{Did, standing, Valid, set_where, Filling, Fillable}
 use Rattle.calls.specs.Runs.{start_of, starts, start_after}

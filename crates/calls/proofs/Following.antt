@@ -112,11 +112,20 @@ comes_same : (out : Outcome (List ℕ)) (f g : Values) (p q : List ℕ) → Come
 comes_same (left sets) f g p q a b = (a.0 ∙ sym b.0, λ _. alone_same a.1 b.1)
 comes_same (core c) f g p q a b = (a ∙ sym b, λ z. cc)
 
-values_same : (f g : Values) → f.lines ≡ g.lines → f.core ≡ g.core → f ≡ g
+pub values_same : (f g : Values) → f.lines ≡ g.lines → f.core ≡ g.core → f ≡ g
 values_same f g a b = same a b
   where
     same : {l l' : ℕ} {k k' : Option ℕ} → l ≡ l' → k ≡ k' → ◌≡◌ {A = Values} (record { lines = l; core = k }) (record { lines = l'; core = k' })
     same p q = cc
+
+pub returned_same : (f g : Values) → returned f ≡ returned g → f ≡ g
+returned_same f g e = let v = ap (λ (w : Said). w.values) e in cc
+
+pub sizes_same : {w w' l l' f f' : ℕ} → w ≡ w' → l ≡ l' → f ≡ f' → ◌≡◌ {A = Sizes} (record { work = w; log = l; filling = f }) (record { work = w'; log = l'; filling = f' })
+sizes_same a b c = cc
+
+pub did_same : {c c' : Call} {a a' : Answer} → c ≡ c' → a ≡ a' → ◌≡◌ {A = Did} (record { call = c; answer = a }) (record { call = c'; answer = a' })
+did_same e f = cc
 
 module _ {C : Type 0} (k : Machine C) (s : Sheet) where
   fit_agree : (h : List Did) (a a' : Step) (f g : Values) {x y y' : Lasting C} → StepRuns k s h x a f y → StepRuns k s h x a' g y'
@@ -139,9 +148,6 @@ module _ {C : Type 0} (k : Machine C) (s : Sheet) where
   alike_judged {b} {b'} {n} e j =
       let z : sizes b'.buffers ≡ sizes b.buffers = sizes_same (sym e.work) (sym e.log) (sym e.filling) in
       subst₂ (λ (w : Sizes) (c : Call). Judged s w c n) z (sym e.call) j
-    where
-      sizes_same : {w w' l l' f f' : ℕ} → w ≡ w' → l ≡ l' → f ≡ f' → ◌≡◌ {A = Sizes} (record { work = w; log = l; filling = f }) (record { work = w'; log = l'; filling = f' })
-      sizes_same a b c = cc
 
   agree_plain : {n : ℕ} {a a' : Step} → a.call ≡ a'.call → said a.answer ≡ plain n → said a'.answer ≡ plain n → Agree s a a'
   agree_plain {n} {a} {a'} call e e' = record {
@@ -167,14 +173,11 @@ module _ {C : Type 0} (k : Machine C) (s : Sheet) where
         record {
           call = call ∙ e.call ∙ sym call';
           answer = said_same a.answer a'.answer (i ∙ ap returned q.0 ∙ sym i');
-          lines = λ v w. let z : f ≡ v = same_values (sym i ∙ w) in subst (λ (t : Values). lines_of a t ≡ lines_of a' t) z (q.1 ∙ ap (lines_of a') (sym q.0));
-          filling = λ v w z. q.2 (ap (λ (t : Values). t.core) (same_values (sym i ∙ w)) ∙ z);
+          lines = λ v w. let z : f ≡ v = returned_same f v (sym i ∙ w) in subst (λ (t : Values). lines_of a t ≡ lines_of a' t) z (q.1 ∙ ap (lines_of a') (sym q.0));
+          filling = λ v w z. q.2 (ap (λ (t : Values). t.core) (returned_same f v (sym i ∙ w)) ∙ z);
         },
         q.3,
       )
-    where
-      same_values : {f g : Values} → returned f ≡ returned g → f ≡ g
-      same_values {f} {g} w = let v = ap (λ (t : Said). t.values) w in let z : f ≡ g = cc in z
 
   plays_same : {before before' : List Step} → Pairwise Alike before before' → (h : List Did) (x y y' : Lasting C) (after after' : List Step) → PlaysByRuns k s h x before after y
       → PlaysByRuns k s h x before' after' y' → Pairwise (Agree s) after after' × (y ≡ y')
@@ -184,9 +187,6 @@ module _ {C : Type 0} (k : Machine C) (s : Sheet) where
       let i : did a ≡ did a' = did_same q.0.call q.0.answer in
       let r = plays_same es (did a ∷ h) t y y' after after' p (subst₂ (λ (c : Did) (t : Lasting C). PlaysByRuns k s (c ∷ h) t before' after' y') (sym i) (sym q.1) p') in
       (and_pairs q.0 r.0, r.1)
-    where
-      did_same : {c c' : Call} {a a' : Answer} → c ≡ c' → a ≡ a' → ◌≡◌ {A = Did} (record { call = c; answer = a }) (record { call = c'; answer = a' })
-      did_same e f = cc
 
   pub plays_follow : {x y : Lasting C} {before after : List Step} → PlaysByRuns k s [] x before after y → Follows k s x before after y
   plays_follow {x} {y} {after = after} p before' after' y' e q = plays_same e [] x y y' after after' p q

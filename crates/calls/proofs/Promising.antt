@@ -2,13 +2,14 @@
 use Rattle.std.proofs.Common.{◌≡◌, ℕ, ◌+◌, ◌-◌, ◌*◌, ◌^◌, ◌<◌, ◌≤◌, eqb, ◌≢◌, List, [], ◌∷◌, length, get_or, take, Some, None, vec_items, Option, sym, refl, ap, ◌∙◌, subst, inl, inr, arith}
 use Rattle.std.proofs.lemmas.List.{length-take-le, ext_get_or}
 use Rattle.std.proofs.lemmas.Bool.{cond-true, cond-false, eq-eqb, ne_eqb, cases_eq}
+use Rattle.bits.proofs.Lists.{each_map}
 use Rattle.bits.specs.Sets.{size}
 use Rattle.network.specs.Book.{Lawful}
 use Rattle.network.specs.Fillings.{Inside, MeetsAll, Meetable}
 use Rattle.choosers.specs.Choice.{Machine, Naming}
 use Rattle.runs.specs.declared.line.Line.{Line}
 use Rattle.runs.specs.Law.{Right, Fills}
-use Rattle.cores.specs.Core.{Core, Each, Ends, Short, Outcome, Outcome.left, Outcome.core}
+use Rattle.cores.specs.Core.{Core, Ends, Short, Outcome, Outcome.left, Outcome.core}
 use Rattle.cores.specs.Fit.{Fit, Fit.fills}
 use Rattle.cores.proofs.CoreLaw.{fit_law}
 use Rattle.clash.specs.declared.fitted.Fitted.{Fitted as Values}
@@ -28,10 +29,6 @@ use Rattle.calls.proofs.Fillings.{starts_long, few_rules, where_low, inside_fill
 module _ (F G : ℕ → Type 0) (to : (a : ℕ) → F a → G a) (from : (a : ℕ) → G a → F a) where
   right_map : (l : Line) → Right F l → Right G l
   right_map l r = record { fits = λ e. to l.listed (r.fits e); only = λ g. r.only (from l.listed g); unused = r.unused; among = r.among; clash = λ e g. r.clash e (from l.used g) }
-
-  each_map : (ls : List Line) → Each (Right F) ls → Each (Right G) ls
-  each_map [] e = tt
-  each_map (l ∷ ls) e = (right_map l e.0, each_map ls e.1)
 
   core_map : (on a : ℕ) → Core F on a → Core G on a
   core_map on a c = record { among = c.among; clash = λ g. c.clash (from a g); needed = λ r h. to (a - 2 ^ r) (c.needed r h) }
@@ -108,7 +105,7 @@ module _ {C : Type 0} (k : Machine C) (naming : Naming k) (s : Sheet) (law : Law
         record {
           ended = ended f.core refl l;
           counted = d.0.counted;
-          right = each_map (Meetable s.book (start_after s h)) (Fillable s h) (met_fillable s opens h valid) (fillable_met s opens h valid) (lines_of a f) l.right;
+          right = each_map (Right (Meetable s.book (start_after s h))) (Right (Fillable s h)) (lines_of a f) (right_map (Meetable s.book (start_after s h)) (Fillable s h) (met_fillable s opens h valid) (fillable_met s opens h valid)) l.right;
           keeps = d.1;
           sized = d.2;
         }

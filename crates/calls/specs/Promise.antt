@@ -1,10 +1,11 @@
 -- What a Fit promises: a filling or a core. Assumes nothing.
 use Rattle.std.specs.Prelude.{◌≡◌, ℕ, ◌≤◌, ◌≢◌, List, [], length, take, drop, Some, None, vec_items}
+use Rattle.std.specs.List.{AllByRecursion}
 use Rattle.bits.specs.Sets.{size}
 use Rattle.network.specs.Fillings.{MeetsAll}
 use Rattle.runs.specs.declared.line.Line.{Line}
 use Rattle.runs.specs.Law.{Right}
-use Rattle.cores.specs.Core.{Core, Short, Each}
+use Rattle.cores.specs.Core.{Core, Short}
 use Rattle.clash.specs.declared.fitted.Fitted.{Fitted as Values}
 use Rattle.calls.specs.declared.step.Step.{Step}
 use Rattle.calls.specs.Sheet.{Sheet, cells}
@@ -51,7 +52,7 @@ StepKeeps s b a f = Keeps (cells s) f (vec_items b.buffers.log) (vec_items a.buf
 pub record FillingOrCore (s : Sheet) (h : List Did) (b a : Step) (f : Values) : Type 0 where
   pub ended : Ended s h a f
   pub counted : f.lines ≤ length (vec_items a.buffers.log)
-  pub right : Each (Right (Fillable s h)) (lines_of a f)
+  pub right : AllByRecursion (Right (Fillable s h)) (lines_of a f)
   pub keeps : StepKeeps s b a f
   pub sized : sizes a.buffers ≡ sizes b.buffers
 

@@ -1,6 +1,6 @@
 -- Which filling, core and lines a Fit gives: those of its runs. Assumes nothing.
 use Rattle.std.specs.Prelude.{◌≡◌, ℕ, ◌-◌, ◌^◌, ◌≤◌, List, [], ◌∷◌, map, length, take, replicate, Some, None, vec_items, vec_len, Option, slice_index}
-use Rattle.std.specs.List.{range_with_len}
+use Rattle.std.specs.List.{AllByRecursion, range_with_len}
 use Rattle.bits.specs.Sets.{size}
 use Rattle.network.specs.Book.{BookMeaning, Remains}
 use Rattle.network.specs.Fillings.{Inside, MeetsAll, Meetable}
@@ -8,7 +8,7 @@ use Rattle.choosers.specs.Choice.{Machine}
 use Rattle.runs.specs.declared.line.Line.{Line}
 use Rattle.runs.specs.Law.{Ready, Right}
 use Rattle.runs.specs.Run.{Run}
-use Rattle.cores.specs.Core.{Core, Short, Each, Outcome, Outcome.left, Outcome.core}
+use Rattle.cores.specs.Core.{Core, Short, Outcome, Outcome.left, Outcome.core}
 use Rattle.cores.specs.Fit.{Fit}
 use Rattle.clash.specs.declared.fitted.Fitted.{Fitted as Values}
 use Rattle.clash.specs.Running.{Lasting, lasting}
@@ -58,7 +58,7 @@ pub record FitRuns {C : Type 0} (k : Machine C) (m : BookMeaning) (start : List 
 pub record FitLaw (m : BookMeaning) (start : List ℕ) (on : ℕ) (log : List Line) (filling : List ℕ) (f : Values) : Type 0 where
   pub filled : f.core ≡ None → Inside (take (length start) filling) start × MeetsAll m on (take (length start) filling) × (f.lines ≡ 1)
   pub clashed : (c : ℕ) → f.core ≡ Some c → (Meetable m start on → ⊥) × Core (Meetable m start) on c × Short (size on) (size c) f.lines
-  pub right : Each (Right (Meetable m start)) (take f.lines log)
+  pub right : AllByRecursion (Right (Meetable m start)) (take f.lines log)
 
 -- the same for a step, after the calls h
 abbrev pub StepRuns : {C : Type 0} → Machine C → Sheet → List Did → Lasting C → Step → Values → Lasting C → Type 0

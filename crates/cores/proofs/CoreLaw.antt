@@ -3,15 +3,20 @@ use Rattle.std.proofs.Common.{◌≡◌, ℕ, zero, suc, ◌+◌, ◌-◌, ◌*�
 use lib.Bits.{bit_or}
 use Rattle.std.proofs.lemmas.Bool.{cases_eq}
 use Rattle.std.proofs.lemmas.List.{take_all}
+use Rattle.std.specs.List.{AllByRecursion}
+use Rattle.bits.proofs.Lists.{each_append}
 use Rattle.bits.specs.Sets.{In, Subset, members, size, set_of}
-use Rattle.bits.proofs.Bits.{has_pow, has_zero, out_same, out_other}
+use Rattle.bits.proofs.Bits.{has_pow, has_zero, out_same, out_other, has_left, has_right, or_has, or_mono, or_subset}
+use Rattle.bits.proofs.SetOf.{first_mono, first_more, has_first, has_set, members_subset, set_empty, subset_members}
+use Rattle.bits.proofs.Size.{size_add, size_sub, size_zero}
+use Rattle.bits.proofs.Same.{size_lt, subset_small}
+use Rattle.bits.proofs.Members.{member_has}
 use Rattle.runs.specs.declared.line.Line.{Line}
 use Rattle.runs.specs.declared.line.Verdict.{Verdict}
 use Rattle.runs.specs.declared.line.Verdict.TheVariants.{Met, Unmet}
 use Rattle.runs.specs.Law.{Right}
-use Rattle.cores.specs.Core.{Core, Short, Each, Outcome, Promise}
+use Rattle.cores.specs.Core.{Core, Short, Outcome, Promise}
 use Rattle.cores.specs.Fit.{with_first, with_rule, Lawful, Gives, Shrinks, Shrinks.all, Shrinks.fewer, Halves, Halves.met, Halves.down, Halves.up, Rounds, Rounds.alone, Rounds.round, Fit, Fit.fills, Fit.clashes}
-use Rattle.cores.proofs.SetFacts.{or_has, has_left, has_right, or_subset, or_mono, has_first, has_set, set_empty, first_mono, first_more, member_has, members_subset, subset_members, size_le, size_lt, size_add, size_zero, subset_small}
 
 half_down : (lo hi L : ℕ) → lo < hi → hi - lo + 1 ≤ 2 * L → (lo + hi) / 2 - lo + 1 ≤ L
 half_down lo hi L lt h = omega arith
@@ -41,10 +46,6 @@ says_clash {Fits} {l} a r e h = go l.verdict refl
     go : (v : Verdict) → l.verdict ≡ v → l.verdict ≡ Unmet
     go Met i = absurd (h (subst Fits e (r.fits i)))
     go Unmet i = i
-
-each_concat : (P : Line → Type 0) (ls ms : List Line) → Each P ls → Each P ms → Each P (ls ++ ms)
-each_concat P [] ms a b = b
-each_concat P (l ∷ ls) ms a b = (a.0, each_concat P ls ms a.1 b)
 
 module _ {S O : Type 0} (R : S → Line → O → S → Type 0) (Fits : ℕ → Type 0) (law : Lawful R Fits) where
   right : {s t : S} {l : Line} {o : O} → R s l o t → Right Fits l
@@ -233,27 +234,27 @@ module _ {S O : Type 0} (R : S → Line → O → S → Type 0) (Fits : ℕ → 
       let n : length ls + size c ≤ size on = subst (λ (x : ℕ). length ls + size c ≤ size x) e a.2 in (
         i.0,
         λ L le.
-            let sl = size_le c on sub in
+            let sl = size_sub c on (λ v l. sub v) in
             short (length ls) (length ms) (length (ls ++ ms)) (size on) (size c) i.1.0 (size found) L (length-append ls ms) n (i.1.3 L (omega arith)) i.1.2 (omega (arith, i.1.1, size_zero)),
       )
 
   -- ---- each line is right
-  shrinks_each : {c : ℕ} {s t : S} {l : Line} {ls : List Line} → Shrinks R l s ls c t → Each (Right Fits) ls
+  shrinks_each : {c : ℕ} {s t : S} {l : Line} {ls : List Line} → Shrinks R l s ls c t → AllByRecursion (Right Fits) ls
   shrinks_each (all e) = tt
   shrinks_each (fewer ne g p) = (right g.run, shrinks_each p)
 
-  halves_each : {found : ℕ} {cs : List ℕ} {lo hi j : ℕ} {s t : S} {ls : List Line} → Halves R found cs lo hi s ls j t → Each (Right Fits) ls
+  halves_each : {found : ℕ} {cs : List ℕ} {lo hi j : ℕ} {s t : S} {ls : List Line} → Halves R found cs lo hi s ls j t → AllByRecursion (Right Fits) ls
   halves_each (met e) = tt
   halves_each (down lt g p) = (right g.run, halves_each p)
   halves_each (up lt g p) = (right g.run, halves_each p)
 
-  rounds_each : {cs : List ℕ} {found n c : ℕ} {s t : S} {ls : List Line} → Rounds R cs found n s ls c t → Each (Right Fits) ls
+  rounds_each : {cs : List ℕ} {found n c : ℕ} {s t : S} {ls : List Line} → Rounds R cs found n s ls c t → AllByRecursion (Right Fits) ls
   rounds_each (alone g) = (right g.run, tt)
-  rounds_each (round {ls = ls} {ms = ms} g h p) = (right g.run, each_concat (Right Fits) ls ms (halves_each h) (rounds_each p))
+  rounds_each (round {ls = ls} {ms = ms} g h p) = (right g.run, each_append (Right Fits) ls ms (halves_each h) (rounds_each p))
 
   pub fit_law : {on : ℕ} {s t : S} {ls : List Line} {out : Outcome O} → on < 2 ^ 64 → Fit R on s ls out t → Promise Fits on ls out
   fit_law h (fills g) = record { lines = (right g.run, tt); ends = (fits g, refl) }
   fit_law h (clashes {ls = ls} {ms = ms} g p q) = let k = found_law h g p q in record {
-    lines = (right g.run, each_concat (Right Fits) ls ms (shrinks_each p) (rounds_each q));
+    lines = (right g.run, each_append (Right Fits) ls ms (shrinks_each p) (rounds_each q));
     ends = (clash g, k.0, k.1);
   }

@@ -1,3 +1,2 @@
-pub mod SetFacts
 pub mod CoreLaw
 pub mod Unique

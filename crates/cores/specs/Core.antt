@@ -1,5 +1,6 @@
 -- What a core is, and in how few lines it is found. Fits a says that some filling meets the rules of the set a. Assumes nothing.
 use Rattle.std.specs.Prelude.{◌≡◌, ℕ, ◌+◌, ◌-◌, ◌*◌, ◌^◌, ◌≤◌, List, [], ◌∷◌, length}
+use Rattle.std.specs.List.{AllByRecursion}
 use Rattle.bits.specs.Sets.{In, Subset, size}
 use Rattle.runs.specs.declared.line.Line.{Line}
 use Rattle.runs.specs.Law.{Right}
@@ -14,11 +15,6 @@ pub record Core (Fits : ℕ → Type 0) (on core : ℕ) : Type 0 where
 abbrev pub Short : ℕ → ℕ → ℕ → Type 0
 Short e k lines = (L : ℕ) → e ≤ 2 ^ L → lines ≤ e + 2 + k * L
 
--- each of some lines
-abbrev pub Each : (Line → Type 0) → List Line → Type 0
-Each P [] = Unit {0}
-Each P (l ∷ ls) = P l × Each P ls
-
 -- what a Fit comes to: what its first run left, or a core
 pub data Outcome (O : Type 0) : Type 0 where
   left : O → Outcome O
@@ -31,5 +27,5 @@ Ends Fits on lines (core c) = (Fits on → ⊥) × Core Fits on c × Short (size
 
 -- what the lines and the outcome of a Fit promise
 pub record Promise {O : Type 0} (Fits : ℕ → Type 0) (on : ℕ) (ls : List Line) (out : Outcome O) : Type 0 where
-  pub lines : Each (Right Fits) ls
+  pub lines : AllByRecursion (Right Fits) ls
   pub ends : Ends Fits on (length ls) out

@@ -2,7 +2,6 @@
 use Rattle.std.proofs.Common.{◌≡◌, ℕ, ◌-◌, ◌^◌, ◌<◌, ◌≤◌, List, ◌++◌, length, replicate, take, true, None, sym, ap, ◌∙◌, subst, subst₂, ⊎_elim, arith}
 use Rattle.std.proofs.lemmas.Bool.{cases_lt}
 use Rattle.std.proofs.lemmas.Option.{none-some}
-use Rattle.std.proofs.Math.Seq.{take-append_seam}
 use Rattle.network.specs.Book.{Lawful}
 use Rattle.network.specs.Fillings.{Meetable}
 use Rattle.choosers.specs.declared.weighted.Weighted.{Weighted}
@@ -39,7 +38,3 @@ module _ (s : Sheet) (law : Lawful s.book) (opens : Opens s) {start : List ℕ} 
     right = subst (λ a. Right (Meetable s.book a) line) e right;
     fills = λ m. subst (Fills s.book (starts s.lengths (λ c. None)) (set_where (λ r. true) s.book.count)) (sym same) (subst₂ (λ a b. Fills s.book a b sets) e f (fills m));
   }
-
--- what a whole vector holds after a call that wrote it
-pub refilled_whole : (n : ℕ) (xs ys : List ℕ) → n ≡ length xs → take n (xs ++ ys) ≡ xs
-refilled_whole n xs ys e = ap (λ k. take k (xs ++ ys)) e ∙ take-append_seam xs ys

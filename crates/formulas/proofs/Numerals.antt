@@ -35,13 +35,9 @@ numeral_one d h pos =
     let e : digits_of 10 d ≡ d ∷ [] = digits_of_step 10 d (omega arith) pos ∙ rw (q, r) refl in
     positive d pos ∙ ap (map (λ d. 48 + d)) e
 
--- each byte is so; each is a digit
-abbrev pub Each : (ℕ → Type 0) → List ℕ → Type 0
-Each P [] = Unit {0}
-Each P (b ∷ s) = P b × Each P s
-
+-- each byte is a digit
 abbrev pub AllDigits : List ℕ → Type 0
-AllDigits s = Each Digit s
+AllDigits s = AllByRecursion Digit s
 
 shifts : (ds : List ℕ) → AllByRecursion (λ d. d < 10) ds → AllDigits (map (λ d. 48 + d) ds)
 shifts [] h = tt

@@ -2,9 +2,10 @@
 use Rattle.std.proofs.Common.{◌≡◌, ℕ, suc, ◌+◌, ◌-◌, ◌<◌, ◌≤◌, List, [], ◌∷◌, ◌++◌, length, get_or, take, drop, sym, refl, ap, ◌∙◌, subst, ⊎_elim, append_assoc, arith, length-append, length-drop, take-append-drop}
 use Rattle.std.proofs.lemmas.List.{take_at, drop_at, drop-drop, drop_more, drop_all, drop-take, take-take, length-take-le}
 use Rattle.std.proofs.lemmas.Bool.{cases_lt, cases_eq}
+use Rattle.std.specs.List.{AllByRecursion}
 use Rattle.formulas.specs.Faults.{next, Digit}
 use Rattle.formulas.specs.Reading.{Spans}
-use Rattle.formulas.proofs.Numerals.{Each, AllDigits}
+use Rattle.formulas.proofs.Numerals.{AllDigits}
 
 pub next_at : (s : List ℕ) (at : ℕ) → at < length s → next (drop at s) ≡ get_or s at 0
 next_at s at lt = ap next (drop_more s at 0 lt)
@@ -78,7 +79,7 @@ step_back s d rest k j lt le e =
     )
 
 -- each byte of a word
-pub spans_each : (P : ℕ → Type 0) (w : List ℕ) {s : List ℕ} {at end : ℕ} → Each P w → Spans s at w end → (i : ℕ) → at ≤ i → i < end → P (next (drop i s))
+pub spans_each : (P : ℕ → Type 0) (w : List ℕ) {s : List ℕ} {at end : ℕ} → AllByRecursion P w → Spans s at w end → (i : ℕ) → at ≤ i → i < end → P (next (drop i s))
 spans_each P [] a p i low high = absurd (omega (arith, p.upto))
 spans_each P (b ∷ w) {s} {at} {end} a p i low high =
     let q = spans_split (b ∷ []) w p in

@@ -77,6 +77,3 @@ mutual
 
 pub seen : (c : Condition) (ns : List Node) (i : ℕ) (f : List ℤ) (x : Node) → get_or ns i Free ≡ x → Stands ns i c → View ns i f (truth f c) x
 seen c ns i f x e h = subst (View ns i f (truth f c)) e (view c ns i f h)
-
-pub child_standing : {ns : List Node} {i j : ℕ} → i < length ns → Child ns i j → Standing ns j
-child_standing h c = record { is = c.is; stands = c.stands; within = omega (arith, c.less) }

@@ -1,6 +1,7 @@
 -- A text has one tree: sides, relations, conditions and lists can be read in one way only. Assumes nothing.
 use Rattle.std.proofs.Common.{◌≡◌, ℕ, suc, ◌<◌, ◌≤◌, Bool, true, ◌≢◌, ◌⊎◌, List, [], ◌∷◌, ◌++◌, length, ℤ, pos, negsuc, sym, refl, ap, ◌∙◌, subst, inl, inr, ⊎_elim, append_assoc, arith}
 use Rattle.std.proofs.lemmas.List.{append_cancel_left}
+use Rattle.std.specs.List.{AllByRecursion}
 use Rattle.formulas.specs.declared.node.Shift.{Shift}
 use Rattle.formulas.specs.declared.node.Shift.TheVariants.{Bare, Plus, Minus}
 use Rattle.formulas.specs.declared.node.Side.{Side}
@@ -10,7 +11,7 @@ use Rattle.formulas.specs.declared.node.Relation.TheVariants.{Equal, NotEqual, L
 use Rattle.formulas.specs.Tree.{Condition, compares, negates, all, any, Conditions, one, more, numeral, number_text, shift_text, side_text, relation_text, text, list_text, not_word, and_word, or_word}
 use Rattle.formulas.specs.Faults.{next, Digit}
 use Rattle.formulas.specs.Reading.{EndsShift, EndsSide, EndsRelation, Ends, Follows, ends, closes, goes_on}
-use Rattle.formulas.proofs.Numerals.{Each, numeral_next, numeral_unique}
+use Rattle.formulas.proofs.Numerals.{numeral_next, numeral_unique}
 
 pub uncons : (b : ℕ) (s t : List ℕ) → b ∷ s ≡ b ∷ t → s ≡ t
 uncons b s t e = cc
@@ -126,7 +127,7 @@ relation_first LessEqual t = (omega arith, omega arith)
 relation_first Greater t = (omega arith, omega arith)
 relation_first GreaterEqual t = (omega arith, omega arith)
 
-pub relation_bytes : (o : Relation) → Each (λ b. (60 ≤ b) × (b ≤ 62)) (relation_text o) × (1 ≤ length (relation_text o))
+pub relation_bytes : (o : Relation) → AllByRecursion (λ b. (60 ≤ b) × (b ≤ 62)) (relation_text o) × (1 ≤ length (relation_text o))
 relation_bytes Equal = (((omega arith, omega arith), tt), omega arith)
 relation_bytes NotEqual = (((omega arith, omega arith), ((omega arith, omega arith), tt)), omega arith)
 relation_bytes Less = (((omega arith, omega arith), tt), omega arith)

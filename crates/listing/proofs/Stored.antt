@@ -1,20 +1,22 @@
 -- What is written of the stores and the file is the sheet's text. Assumes nothing.
 use Rattle.std.proofs.Common.{◌≡◌, ℕ, zero, suc, ◌+◌, ◌-◌, ◌*◌, ◌^◌, ◌<◌, ◌≤◌, min, List, [], ◌∷◌, ◌++◌, map, length, get_or, take, drop, replicate, ℤ, pos, sym, refl, ap, ◌∙◌, ap₂, ⊎_elim, append_assoc, suc-mul, zero-mul, arith, length-append}
 use lib.ListN.{length-map}
-use Rattle.std.specs.List.{range_with_len, flat_map}
+use Rattle.std.specs.List.{range_with_len, flat_map, AllByRecursion}
 use Rattle.std.proofs.lemmas.List.FromFn.{fill_by_all}
 use Rattle.std.proofs.lemmas.List.{take_at, drop_at, drop_all}
 use Rattle.std.proofs.lemmas.Bool.{cases_lt}
+use Rattle.std.proofs.lemmas.List.Concat.{flat_map-append}
+use Rattle.bits.proofs.Lists.{each_map}
 use Rattle.rows.specs.declared.rule.RowsRule.{RowsRule}
 use Rattle.formulas.specs.Tree.{Condition}
 use Rattle.sheets.specs.declared.stores.Extent.{Extent}
-use Rattle.sheets.specs.Sheet.{Sheet, RowsField, Field, GoodList, GoodRows, Each, cell_field, rows_field, formula_field, field_bytes, fields_of, file_of}
+use Rattle.sheets.specs.Sheet.{Sheet, RowsField, Field, GoodList, GoodRows, cell_field, rows_field, formula_field, field_bytes, fields_of, file_of}
 use Rattle.sheets.specs.Stored.{Contents, filled, places_of, stored_rule_of, rules_of}
-use Rattle.sheets.proofs.Fields.{joined_append}
 use Rattle.sheets.proofs.Storing.{length_rules}
+use Rattle.sheets.proofs.Wide.{Wide, run, row_part}
 use Rattle.sheet_books.specs.Books.{Holds}
-use Rattle.sheet_books.proofs.Parts.{filled_take, filled_length, each_map}
-use Rattle.sheet_books.proofs.StoredRows.{Wide, run}
+use Rattle.sheets.proofs.Filled.{length_filled}
+use Rattle.sheet_books.proofs.Parts.{filled_take}
 use Rattle.sheet_books.proofs.StoredNumbers.{Short, spread}
 use Rattle.listing.specs.Listing.{numbered, cell_line, list_in, rows_line, field_of, formula_line, formula_lines, listing_of}
 
@@ -36,21 +38,9 @@ cells_same (zs ∷ lists) n p q numbers s l e =
     let here : list_in numbers n (length zs) ≡ zs =
     ap (λ x. take (length zs) (drop (64 * n) x)) e₁ ∙ ap (take (length zs)) (drop_at p (f ++ (spread lists ++ q)) (64 * n) l ∙ append_assoc zs blank (spread lists ++ q)) ∙ take_at zs (blank ++ (spread lists ++ q)) (length zs) refl in
     ap₂ (λ x y. cell_line n x ++ y) here
-    (cells_same lists (n + 1) (p ++ f) q numbers s.1 (length-append p f ∙ omega (arith, filled_length (pos 0) 64 zs s.0)) (e₁ ∙ sym (append_assoc p f (spread lists ++ q))))
+    (cells_same lists (n + 1) (p ++ f) q numbers s.1 (length-append p f ∙ omega (arith, length_filled (pos 0) 64 zs s.0)) (e₁ ∙ sym (append_assoc p f (spread lists ++ q))))
 
 -- ---- the rules by rows
-row_part : (w : ℕ) (rs : List (List ℕ)) (m : ℕ) (p q bytes : List ℕ) → Wide w rs → length p ≡ m → bytes ≡ p ++ (run rs ++ q)
-    → (j : ℕ) → j < length rs → take w (drop (m + j * w) bytes) ≡ get_or rs j []
-row_part w [] m p q bytes h l e j a = absurd (omega arith)
-row_part w (r ∷ rs) m p q bytes h l e zero a =
-    let n : length p ≡ m + 0 * w = omega (arith, zero-mul w) in
-    ap (λ x. take w (drop (m + 0 * w) x)) e ∙ ap (take w) (drop_at p ((r ++ run rs) ++ q) (m + 0 * w) n ∙ append_assoc r (run rs) q) ∙ take_at r (run rs ++ q) w (h 0 (omega arith))
-row_part w (r ∷ rs) m p q bytes h l e (suc j) a =
-    let n : m + suc j * w ≡ (m + w) + j * w = omega (arith, suc-mul j w) in
-    ap (λ i. take w (drop i bytes)) n
-    ∙ row_part w rs (m + w) (p ++ r) q bytes (λ i g. h (suc i) (omega arith)) (length-append p r ∙ omega (arith, h 0 (omega arith)))
-    (e ∙ ap (λ x. p ++ x) (append_assoc r (run rs) q) ∙ sym (append_assoc p r (run rs ++ q))) j (omega arith)
-
 field_same : (x : RowsField) (m : ℕ) (p q bytes : List ℕ) → Wide (length x.cells) x.rows → length p ≡ m → bytes ≡ p ++ (places_of x ++ q) → field_of bytes (stored_rule_of m x) ≡ x
 field_same x m p q bytes wide l e =
     let w = length x.cells in
@@ -62,7 +52,7 @@ field_same x m p q bytes wide l e =
 abbrev WideRows : RowsField → Type 0
 WideRows x = Wide (length x.cells) x.rows
 
-rules_same : (xs : List RowsField) (r n : ℕ) (p q bytes : List ℕ) → Each WideRows xs → length p ≡ n → bytes ≡ p ++ (flat_map places_of xs ++ q)
+rules_same : (xs : List RowsField) (r n : ℕ) (p q bytes : List ℕ) → AllByRecursion WideRows xs → length p ≡ n → bytes ≡ p ++ (flat_map places_of xs ++ q)
     → numbered (λ k rule. rows_line k (field_of bytes rule)) r (rules_of n xs) ≡ numbered rows_line r xs
 rules_same [] r n p q bytes w l e = refl
 rules_same (x ∷ xs) r n p q bytes w l e =
@@ -78,7 +68,7 @@ abbrev pub all_fields : Sheet → List Field
 all_fields s = fields_of s ++ (end_field ∷ [])
 
 pub file_fields : (s : Sheet) → file_of s ≡ flat_map field_bytes (all_fields s)
-file_fields s = sym (joined_append (fields_of s) (end_field ∷ []))
+file_fields s = sym (flat_map-append field_bytes (fields_of s) (end_field ∷ []))
 
 past_cells : (n : ℕ) (lists : List (List ℤ)) (fs : List Field) → formula_lines n (map cell_field lists ++ fs) ≡ formula_lines n fs
 past_cells n [] fs = refl
@@ -105,7 +95,7 @@ module _ (held : Contents) (e : Extent) (s : Sheet) (h : Holds held e s) where
   short : Short s.lists
   short = each_map GoodList (λ zs. length zs ≤ 64) s.lists (λ zs g. g.few) h.good.lists
 
-  wide : Each WideRows s.rows
+  wide : AllByRecursion WideRows s.rows
   wide = each_map (GoodRows s.lists) WideRows s.rows (λ x g i l. (g.rows i l).wide) h.good.rows
 
   module _ (rules : List RowsRule) (are : rules ≡ rules_of 0 s.rows) where

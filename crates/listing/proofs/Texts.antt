@@ -1,12 +1,10 @@
 -- Lines written piece by piece. Assumes nothing.
-use Rattle.std.proofs.Common.{◌≡◌, ℕ, suc, ◌+◌, ◌<◌, ◌≤◌, Bool, cond, eqb, List, [], ◌∷◌, ◌++◌, map, length, get_or, take, sym, ap, ◌∙◌, append_assoc, append-nil, arith}
-use mathlib.Core.List.{map-append}
+use Rattle.std.proofs.Common.{◌≡◌, ℕ, ◌+◌, ◌<◌, ◌≤◌, List, [], ◌∷◌, ◌++◌, map, length, get_or, take, sym, ap, ◌∙◌, append_assoc, append-nil, arith}
 use lib.ListN.{length-map}
-use Rattle.std.specs.List.{range_with_len, flat_map}
+use Rattle.std.specs.List.{range_with_len}
 use Rattle.std.proofs.lemmas.List.FromFn.{map-range_with_len_more, length-map-range_with_len}
-use Rattle.std.proofs.lemmas.List.{take_all, length-take-le}
-use Rattle.std.proofs.lemmas.Bool.{ne_eqb}
-use Rattle.text.proofs.Pieces.{joined_push, front}
+use Rattle.std.proofs.lemmas.List.{take_all, length-take-le, map_push}
+use Rattle.text.proofs.Pieces.{front, gap, spaced_more}
 use Rattle.listing.specs.Listing.{numbered, commas, row_text}
 
 numbered_push : {X : Type 0} (f : ℕ → X → List ℕ) (n m : ℕ) (xs : List X) (x : X) → n + length xs ≡ m → numbered f n (xs ++ (x ∷ [])) ≡ numbered f n xs ++ f m x
@@ -25,23 +23,10 @@ module _ {X : Type 0} (xs : List X) (i : ℕ) (end : length xs ≤ i) (a u : Lis
   pub numbered_whole : (f : ℕ → X → List ℕ) → u ≡ a ++ numbered f 0 (take i xs) → u ≡ a ++ numbered f 0 xs
   numbered_whole f e = e ∙ ap (λ l. a ++ numbered f 0 l) (take_all i xs end)
 
--- the comma before a text
-abbrev pub gap : ℕ → List ℕ
-gap i = cond (eqb i 0) [] (44 ∷ [])
-
-commas_push : (ws : List (List ℕ)) (w : List ℕ) → commas (ws ++ (w ∷ [])) ≡ commas ws ++ (gap (length ws) ++ w)
-commas_push [] w = append-nil w
-commas_push (v ∷ ws) w =
-    ap (λ l. v ++ l) (joined_push (λ u. 44 ∷ u) ws w) ∙ sym (append_assoc v (flat_map (λ u. 44 ∷ u) ws) (44 ∷ w))
-    ∙ ap (λ (b : Bool). (v ++ flat_map (λ u. 44 ∷ u) ws) ++ (cond b [] (44 ∷ []) ++ w)) (sym (ne_eqb (suc (length ws)) 0 (omega arith)))
-
 -- one more row
-pub row_more : (g : ℕ → List ℕ) (i : ℕ) (a u v w : List ℕ) → u ≡ a ++ commas (map row_text (map g (range_with_len 0 i))) → v ≡ u ++ gap i → w ≡ v ++ row_text (g i)
+pub row_more : (g : ℕ → List ℕ) (i : ℕ) (a u v w : List ℕ) → u ≡ a ++ commas (map row_text (map g (range_with_len 0 i))) → v ≡ u ++ gap 44 i → w ≡ v ++ row_text (g i)
     → w ≡ a ++ commas (map row_text (map g (range_with_len 0 (i + 1))))
 row_more g i a u v w e k h =
     let rs = map g (range_with_len 0 i) in
-    let ws = map row_text rs in
-    let n : length ws ≡ i = length-map rs row_text ∙ length-map-range_with_len g 0 i in
-    let s : commas (map row_text (map g (range_with_len 0 (i + 1)))) ≡ commas ws ++ (gap i ++ row_text (g i)) =
-    ap (λ l. commas (map row_text l)) (map-range_with_len_more g 0 i i (omega arith)) ∙ ap commas (map-append row_text rs (g i ∷ [])) ∙ commas_push ws (row_text (g i)) ∙ ap (λ j. commas ws ++ (gap j ++ row_text (g i))) n in
-    h ∙ ap (λ l. l ++ row_text (g i)) (k ∙ ap (λ l. l ++ gap i) e) ∙ append_assoc (a ++ commas ws) (gap i) (row_text (g i)) ∙ append_assoc a (commas ws) (gap i ++ row_text (g i)) ∙ ap (λ l. a ++ l) (sym s)
+    spaced_more 44 (map row_text rs) (row_text (g i)) i a u v w (length-map rs row_text ∙ length-map-range_with_len g 0 i) e k h
+    ∙ ap (λ l. a ++ commas l) (sym (ap (map row_text) (map-range_with_len_more g 0 i i (omega arith)) ∙ map_push row_text rs (g i)))

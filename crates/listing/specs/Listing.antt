@@ -1,6 +1,6 @@
 -- The readable text of a sheet. Assumes nothing.
 use Rattle.std.specs.Prelude.{ℕ, ◌+◌, ◌*◌, cond, List, [], ◌∷◌, ◌++◌, map, length, take, drop, ℤ, codes, ◌==◌}
-use Rattle.std.specs.List.{range_with_len, flat_map}
+use Rattle.std.specs.List.{range_with_len, flat_map, join_with_byte}
 use Rattle.rows.specs.declared.rule.Kind.{Kind}
 use Rattle.rows.specs.declared.rule.Kind.TheVariants.{Permitted, Forbidden}
 use Rattle.rows.specs.declared.rule.RowsRule.{RowsRule}
@@ -22,8 +22,7 @@ kind_text Forbidden = codes " forbidden"
 
 -- texts with a comma between them
 abbrev pub commas : List (List ℕ) → List ℕ
-commas [] = []
-commas (w ∷ ws) = w ++ flat_map (λ v. 44 ∷ v) ws
+commas ws = join_with_byte 44 ws
 
 -- the places of a row, a blank before each
 abbrev pub row_text : List ℕ → List ℕ

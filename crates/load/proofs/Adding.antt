@@ -3,7 +3,7 @@ use Rattle.std.proofs.Common.{◌≡◌, ℕ, suc, ◌+◌, ◌-◌, ◌*◌, �
 use borrow.Rule.Slice.PartMut.{put_mid}
 use lib.ListN.{length-map}
 use Rattle.std.specs.List.{flat_map}
-use Rattle.std.proofs.lemmas.List.{map_push, length_push, drop-replicate, take_at, take-append-le, length-take-le}
+use Rattle.std.proofs.lemmas.List.{flat_map_more, map_push, length_push, drop-replicate, take_at, take-append-le, length-take-le}
 use Rattle.formulas.specs.declared.node.Node.{Node}
 use Rattle.formulas.specs.declared.node.Node.TheVariants.{Free}
 use Rattle.formulas.specs.Tree.{Condition}
@@ -17,18 +17,13 @@ use Rattle.sheets.specs.Stored.{Contents, held, zero_rule, zero_formula, filled,
 use Rattle.load.specs.declared.loading.Loading.{Loading}
 use Rattle.load.specs.Fields.{Holds}
 use Rattle.sheets.proofs.Filled.{filled_more, blank_part, block, rest_block, front_block, length_filled}
-use Rattle.sheets.proofs.Storing.{joined_push, rules_more, length_rules, formulas_more, length_formulas, nodes_more, nodes_count, length_numbers}
+use Rattle.sheets.proofs.Wide.{run_length}
+use Rattle.sheets.proofs.Storing.{rules_more, length_rules, formulas_more, length_formulas, nodes_more, nodes_count, length_numbers}
 
 -- how many places a rule's rows have
-wide_rows : (w : ℕ) (rs : List (List ℕ)) → ((i : ℕ) → i < length rs → length (get_or rs i []) ≡ w) → length (flat_map (λ row. row) rs) ≡ length rs * w
-wide_rows w [] h = sym (zero-mul w)
-wide_rows w (r ∷ rs) h =
-    length-append r (flat_map (λ row. row) rs)
-    ∙ omega (arith, h 0 (omega arith), wide_rows w rs (λ i l. h (suc i) (omega arith)), suc-mul (length rs) w)
-
 pub places_count : (lists : List (List ℤ)) (x : RowsField) → GoodRows lists x → (n : ℕ) (rule : RowsRule) → rule ≡ stored_rule_of n x → rule.count * rule.width ≡ length (places_of x)
 places_count lists x g n rule i =
-    (λ k. (i k).count * (i k).width) ∙ sym (wide_rows (length x.cells) x.rows (λ j l. (g.rows j l).wide))
+    (λ k. (i k).count * (i k).width) ∙ sym (run_length (length x.cells) x.rows (λ j l. (g.rows j l).wide))
 
 pub places_short : (x : RowsField) → length (places_of x) ≤ length (rows_bytes x)
 places_short x = omega (arith, length-append x.cells (flat_map (λ row. row) x.rows))
@@ -85,7 +80,7 @@ module _ (s : Sheet) (good : Good s) (loading : Loading) (holds : Holds loading 
         let new : part ≡ filled (pos 0) 64 zs =
         p ∙ ap (λ l. zs ++ drop (length zs) l) ((λ j. take (i j) (drop (here j) (holds.stores j).numbers)) ∙ blank_part (pos 0) n xs 64 fits) ∙ ap (λ l. zs ++ l) (drop-replicate (length zs) 64 (pos 0)) in
         block (pos 0) n xs (filled (pos 0) 64 zs) c.numbers part from (ap (λ (x : Contents). x.numbers) holds.stores) here k (i ∙ sym ly) new (omega (arith, fits, ly))
-        ∙ ap (filled (pos 0) n) (sym (joined_push (filled (pos 0) 64) s.lists zs))
+        ∙ ap (filled (pos 0) n) (flat_map_more (filled (pos 0) 64) [] s.lists zs)
 
     pub list_stored : (n from k : ℕ) (part : List ℤ) → n ≡ length zs → from ≡ 64 * e.cells → k ≡ 64 → part ≡ zs ++ drop (length zs) (take k (drop from c.numbers))
         → record { lengths = set c.lengths e.cells n; numbers = put_mid from k c.numbers part; rules = c.rules; places = c.places; formulas = c.formulas; nodes = c.nodes } ≡ stored c (with_list s zs)
@@ -117,7 +112,7 @@ module _ (s : Sheet) (good : Good s) (loading : Loading) (holds : Holds loading 
         → put_mid e.places (length c.places - e.places) c.places part ≡ (stored c (with_rows s x)).places
     places_added part p =
         rest_block 0 (length c.places) (flat_map places_of s.rows) (places_of x) c.places part e.places (ap (λ (y : Contents). y.places) holds.stores) places_are p (omega (arith, places_are, fits, loading.enough.places))
-        ∙ ap (filled 0 (length c.places)) (sym (joined_push places_of s.rows x))
+        ∙ ap (filled 0 (length c.places)) (flat_map_more places_of [] s.rows x)
 
     pub rows_stored : (rule : RowsRule) (part : List ℕ) → rule ≡ stored_rule_of e.places x → part ≡ places_of x ++ drop (length (places_of x)) (take (length c.places - e.places) (drop e.places c.places))
         → record { lengths = c.lengths; numbers = c.numbers; rules = set c.rules e.rules rule; places = put_mid e.places (length c.places - e.places) c.places part; formulas = c.formulas; nodes = c.nodes } ≡ stored c (with_rows s x)
@@ -134,7 +129,7 @@ module _ (s : Sheet) (good : Good s) (loading : Loading) (holds : Holds loading 
     rows_extent n i =
         let one : e.rules + 1 ≡ length (s.rows ++ (x ∷ [])) = ap (λ k. k + 1) rules_are ∙ sym (length_push s.rows x) in
         let more : n ≡ length (flat_map places_of (s.rows ++ (x ∷ []))) =
-        i ∙ ap (λ k. k + length (places_of x)) places_are ∙ sym (length-append (flat_map places_of s.rows) (places_of x)) ∙ ap length (sym (joined_push places_of s.rows x)) in
+        i ∙ ap (λ k. k + length (places_of x)) places_are ∙ sym (length-append (flat_map places_of s.rows) (places_of x)) ∙ ap length (flat_map_more places_of [] s.rows x) in
         λ y. record { cells = (holds.extent y).cells; rules = one y; places = more y; formulas = (holds.extent y).formulas; nodes = (holds.extent y).nodes }
 
   -- a rule by a formula

@@ -6,28 +6,12 @@ use Rattle.std.proofs.lemmas.Bool.{cases_lt}
 use Rattle.std.specs.Simd.{first_chunks}
 use Rattle.sheets.specs.declared.fault.RuleFault.TheVariants.{List as ListFault}
 use Rattle.sheets.specs.Sheet.{four_bytes, list_bytes, GoodList}
-use Rattle.sheets.proofs.Fields.{byte}
-use Rattle.sheets.proofs.Contents.{small_fits}
+use Rattle.sheets.proofs.Contents.{small_fits, four_unique}
 use Rattle.load.specs.Read.{ReadList, NoList}
 
--- four bytes and the number in them
-pub four_of : (a b c d : ℕ) (z : ℤ) → a < 256 → b < 256 → c < 256 → d < 256 → z ≡ to_z w32 (a * 16777216 + b * 65536 + c * 256 + d) → four_bytes z ≡ a ∷ b ∷ c ∷ d ∷ []
-four_of a b c d z p q r s e =
-    let n : of_z w32 z ≡ a * 16777216 + b * 65536 + c * 256 + d = ap (of_z w32) e ∙ of_z-to_z w32 (a * 16777216 + b * 65536 + c * 256 + d) (omega arith) in
-    let h : of_z w32 z / 16777216 ≡ a = omega arith in
-    let i : of_z w32 z / 65536 % 256 ≡ b = omega arith in
-    let j : of_z w32 z / 256 % 256 ≡ c = omega arith in
-    let k : of_z w32 z % 256 ≡ d = omega arith in
-    λ t. h t ∷ i t ∷ j t ∷ k t ∷ []
-
+-- a number is what its four bytes say
 pub four_same : (y z : ℤ) → SFits w32 y → SFits w32 z → four_bytes y ≡ four_bytes z → y ≡ z
-four_same y z p q e =
-    let a = byte _ _ _ _ e in
-    let b = byte _ _ _ _ a.1 in
-    let c = byte _ _ _ _ b.1 in
-    let d = byte _ _ _ _ c.1 in
-    let n : of_z w32 y ≡ of_z w32 z = omega (arith, a.0, b.0, c.0, d.0) in
-    sym (to_z-of_z w32 y p) ∙ ap (to_z w32) n ∙ to_z-of_z w32 z q
+four_same y z p q e = (four_unique y z p q [] [] e).0
 
 -- a number is what its bits say
 pub by_bits : (z : ℤ) (l : List ℕ) → SFits w32 z → four_bytes z ≡ l → SFits w32 (to_z w32 (of_z w32 z)) × (four_bytes (to_z w32 (of_z w32 z)) ≡ l)
@@ -74,9 +58,6 @@ pub record SoFar (content : List ℕ) (before after : List ℤ) (k : ℕ) : Type
   pub small : (j : ℕ) → j < k → nat_abs (get_or after j (pos 0)) ≤ 1000000
   pub apart : (i j : ℕ) → i < j → j < k → get_or after i (pos 0) ≡ get_or after j (pos 0) → ⊥
   pub rest : drop k after ≡ drop k before
-
-pub none_yet : (content : List ℕ) (before : List ℤ) → SoFar content before before 0
-none_yet content before = record { same = refl; said = λ j h. absurd (omega arith); small = λ j h. absurd (omega arith); apart = λ i j h l. absurd (omega arith); rest = refl }
 
 pub one_more : (content : List ℕ) (before after : List ℤ) (k : ℕ) (z : ℤ) → SoFar content before after k → k < length after
     → four_bytes z ≡ take 4 (drop (4 * k) content) → nat_abs z ≤ 1000000 → ((j : ℕ) → j < k → get_or after j (pos 0) ≡ z → ⊥) → SoFar content before (set after k z) (k + 1)

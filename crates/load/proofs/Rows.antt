@@ -1,8 +1,8 @@
 -- A rows rule read part by part. Assumes nothing.
-use Rattle.std.proofs.Common.{◌≡◌, ℕ, zero, suc, ◌+◌, ◌*◌, ◌/◌, ◌%◌, ◌<◌, ◌≤◌, Bool, false, List, [], ◌∷◌, ◌++◌, map, length, get_or, take, drop, ℤ, Decides, sym, refl, ap, ◌∙◌, subst, mul-le-mul_right, suc-mul, mul-div_cancel, arith, length-append}
+use Rattle.std.proofs.Common.{◌≡◌, ℕ, zero, suc, ◌+◌, ◌*◌, ◌/◌, ◌%◌, ◌<◌, ◌≤◌, Bool, false, List, [], ◌∷◌, ◌++◌, map, length, get_or, take, drop, ℤ, Decides, sym, refl, ap, ◌∙◌, subst, mul-le-mul_right, suc-mul, zero-add, mul-div_cancel, arith, length-append}
 use native.Mathlib.Nat.{mul-mod_left}
 use Rattle.std.specs.List.{flat_map}
-use Rattle.std.proofs.lemmas.List.{nil_from_length, take-append-drop, drop-drop, length-drop, length-take-le, length-map, get_or-map, take_at, drop_at}
+use Rattle.std.proofs.lemmas.List.{append-nil, nil_from_length, take-append-drop, drop-drop, length-drop, length-take-le, length-map, get_or-map, take_at, drop_at}
 use Rattle.std.proofs.lemmas.Bool.Decides.{not_from_Decides}
 use Rattle.rows.specs.declared.rule.Kind.{Kind}
 use Rattle.rows.specs.declared.rule.RowsRule.{RowsRule}
@@ -10,6 +10,7 @@ use Rattle.sheets.specs.declared.fault.RuleFault.TheVariants.{Rows as RowsFault}
 use Rattle.sheets.specs.Sheet.{RowsField, kind_byte, rows_bytes, GoodRow, GoodRows}
 use Rattle.sheets.specs.Stored.{places_of, filled}
 use Rattle.sheets.proofs.Fields.{byte, same_front}
+use Rattle.sheets.proofs.Wide.{Wide, run, run_length, row_part}
 use Rattle.load.specs.Read.{ReadRows, NoRows}
 use Rattle.network.specs.Cells.{Listed}
 use Rattle.load.specs.Parts.{Headed}
@@ -42,20 +43,8 @@ item_cut zero w bytes i h = absurd (omega arith)
 item_cut (suc n) w bytes zero h = let e : 0 ≡ 0 * w = omega arith in ap (λ m. take w (drop m bytes)) e
 item_cut (suc n) w bytes (suc i) h = item_cut n w (drop w bytes) i (omega arith) ∙ ap (take w) (sym (next_row w i bytes))
 
--- rows of one width, one after another
-abbrev Wide : ℕ → List (List ℕ) → Type 0
-Wide w rs = (i : ℕ) → i < length rs → length (get_or rs i []) ≡ w
-
-length_joined : (w : ℕ) (rs : List (List ℕ)) → Wide w rs → length (flat_map (λ row. row) rs) ≡ length rs * w
-length_joined w [] h = omega arith
-length_joined w (r ∷ rs) h = omega (arith, length-append r (flat_map (λ row. row) rs), h 0 (omega arith), suc-mul (length rs) w, length_joined w rs (λ i l. h (suc i) (omega arith)))
-
-row_joined : (w : ℕ) (rs : List (List ℕ)) (i : ℕ) → Wide w rs → i < length rs → row_at w (flat_map (λ row. row) rs) i ≡ get_or rs i []
-row_joined w [] i h l = absurd (omega arith)
-row_joined w (r ∷ rs) zero h l = let e : 0 * w ≡ 0 = omega arith in ap (λ m. take w (drop m (r ++ flat_map (λ row. row) rs))) e ∙ take_at r (flat_map (λ row. row) rs) w (h 0 (omega arith))
-row_joined w (r ∷ rs) (suc i) h l =
-    ap (take w) (next_row w i (r ++ flat_map (λ row. row) rs) ∙ ap (drop (i * w)) (drop_at r (flat_map (λ row. row) rs) w (h 0 (omega arith))))
-    ∙ row_joined w rs i (λ j m. h (suc j) (omega arith)) (omega arith)
+row_joined : (w : ℕ) (rs : List (List ℕ)) (i : ℕ) → Wide w rs → i < length rs → row_at w (run rs) i ≡ get_or rs i []
+row_joined w rs i h l = ap (λ n. take w (drop n (run rs))) (sym (zero-add (i * w))) ∙ row_part w rs 0 [] [] (run rs) h refl (sym (append-nil (run rs))) i l
 
 -- what a headed content has at its front
 pub head_width : (content : List ℕ) (count : ℕ) (kind : Kind) (cells rest : List ℕ) → Headed content count kind cells rest → (get_or content 1 0 ≡ length cells) × (length cells + length rest + 2 ≡ length content)
@@ -89,7 +78,7 @@ pub good_rest : (content lengths : List ℕ) (n : ℕ) (kind : Kind) (cells rest
 good_rest content lengths n kind cells rest lists x h e g s =
     let same = parts_same content n (length lengths) kind x.kind cells x.cells rest (places_of x) h (good_headed content lengths lists x e g s) in
     let wide : Wide (length x.cells) x.rows = λ i l. (g.rows i l).wide in (
-      ap length same.1 ∙ length_joined (length x.cells) x.rows wide ∙ ap (λ (l : List ℕ). length x.rows * length l) (sym same.0),
+      ap length same.1 ∙ run_length (length x.cells) x.rows wide ∙ ap (λ (l : List ℕ). length x.rows * length l) (sym same.0),
       λ i l. subst (λ (cs : List ℕ). Listed lengths cs (row_at (length cs) rest i)) (sym same.0)
           (subst (λ (r : List ℕ). Listed lengths x.cells r) (sym (row_joined (length x.cells) x.rows i wide l) ∙ ap (λ b. row_at (length x.cells) b i) (sym same.1))
           (λ k m. subst (λ (z : ℕ). get_or (get_or x.rows i []) k 0 < z) (sym (get_or-map length lists (get_or x.cells k 0) [] 0 (g.known k m)) ∙ ap (λ (l : List ℕ). get_or l (get_or x.cells k 0) 0) e) ((g.rows i l).listed k m))),

@@ -74,7 +74,3 @@ module _ (b : Bool) (rule : Rule) where
 
   pub turn_off : b ≡ false → (i : ℕ) → SamePosition turn i rule i
   turn_off off i = subst (λ t. SamePosition (cond t (reversed rule) rule) i rule i) (sym off) (same_position rule i)
-
--- a rule with support is not missing
-pub supported_real : {m : BookMeaning} → Lawful m → (r : ℕ) {i v : ℕ} {sets : List ℕ} → Supported (m.rule r) i v sets → r < m.count
-supported_real {m} p r s = ⊎_elim (λ h. h) (λ h. absurd (omega (arith, ap length (p.missing r h), s.within))) (cases_lt r m.count)

@@ -21,6 +21,7 @@ use Rattle.calls.specs.History.{Did, accepted, pinned, switched, standing, is_on
 use Rattle.calls.specs.Plays.{sizes, did, Untouched, Makes, Makes.refused, Makes.changed, Makes.fitted}
 use Rattle.calls.specs.Promise.{Keeps}
 use Rattle.calls.specs.Runs.{start_of, start_after, FitRuns, StepDone}
+use Rattle.calls.proofs.Following.{sizes_same}
 use Rattle.calls.proofs.Fillings.{few_cells, few_rules}
 use Rattle.calls.proofs.Promising.{done_opens, stands_same, stands_changed, valid_next}
 use Rattle.session.specs.Pins.{held}
@@ -221,6 +222,3 @@ module _ {B C : Type 0} (meaning : B → BookMeaning) (k : Machine C) (s t : Ses
             (refused j ne says u) in
             with_holds holds m (λ v. subst (λ (x : Session B C). Holds s.lengths.now (did a ∷ h) x.table) (sym q.0) (holds_same (did a) n num ne holds v))
       ]
-    where
-      sizes_same : {w w' l l' f f' : ℕ} → w ≡ w' → l ≡ l' → f ≡ f' → ◌≡◌ {A = Sizes} (record { work = w; log = l; filling = f }) (record { work = w'; log = l'; filling = f' })
-      sizes_same a b c = cc

@@ -115,9 +115,6 @@ decided_fault {cells} {s = s} {e = e} many fits g = record {
   no_room = λ short. absurd (short fits);
 }
 
-pub decided_no_room : {cells n : ℕ} {s : List ℕ} {before : List Node} → (Fits s before n → ⊥) → Decided cells s before n (Err NoRoom)
-decided_no_room short = record { accepts = λ c h a. absurd (short h); refuses = λ f k h g. absurd (short h); no_room = λ h. refl }
-
 -- the fault of a formula that is not read is its first
 pub fault_first : {cells n used : ℕ} {s : List ℕ} {before after : List Node} {e : FormulaFault} → NotRead cells s before n after used (Fault e) → FirstOf cells s e
 fault_first (fault there first same cleared) = first

@@ -2,6 +2,7 @@
 use Rattle.std.proofs.Common.{◌≡◌, List, [], ◌∷◌, ◌++◌, Some, None, Option, sym, refl, ap, ◌∙◌, append-nil}
 use mathlib.Core.List.{map-append}
 use Rattle.std.specs.List.{cons_option, AllByRecursion}
+use Rattle.bits.proofs.Lists.{each_push}
 use Rattle.calls.specs.declared.call.Call.{Call}
 use Rattle.calls.specs.declared.step.Step.{Step}
 use Rattle.calls.specs.Plays.{sizes}
@@ -17,18 +18,11 @@ calls_push : (ls : List Line) (l : Line) → calls_of (ls ++ (l ∷ [])) ≡ cal
 calls_push [] l = refl
 calls_push (k ∷ ls) l = ap (cons_option (call_of k)) (calls_push ls l) ∙ onto (call_of k) (calls_of ls) (cons_option (call_of l) [])
 
-all_push : {X : Type 0} (P : X → Type 0) (xs : List X) (x : X) → AllByRecursion P xs → P x → AllByRecursion P (xs ++ (x ∷ []))
-all_push P [] x a p = (p, tt)
-all_push P (y ∷ xs) x a p = (a.0, all_push P xs x a.1 p)
-
 not_call : (l : Line) → ((call : Call) → l ≡ CallLine call → ⊥) → call_of l ≡ None
 not_call Blank h = refl
 not_call (CallLine call) h = absurd (h call refl)
 not_call (Turn flags) h = refl
 not_call NotUnderstood h = refl
-
-pub prepared_none : Prepared [] []
-prepared_none = record { calls = refl; room = tt }
 
 pub prepared_skip : (l : Line) → ((call : Call) → l ≡ CallLine call → ⊥) → (ls : List Line) (before : List Step) → Prepared ls before → Prepared (ls ++ (l ∷ [])) before
 prepared_skip l h ls before p = record {
@@ -41,5 +35,5 @@ prepared_push l call b e h ls before p = record {
   calls =
       map-append (λ (b : Step). b.call) before (b ∷ []) ∙ ap (λ cs. cs ++ (b.call ∷ [])) p.calls ∙ ap (λ c. calls_of ls ++ (c ∷ [])) h.0
       ∙ sym (calls_push ls l ∙ ap (λ k. calls_of ls ++ cons_option (call_of k) []) e);
-  room = all_push (λ (b : Step). sizes b.buffers ≡ room_of b.call) before b p.room h.1;
+  room = each_push (λ (b : Step). sizes b.buffers ≡ room_of b.call) before b p.room h.1;
 }

@@ -11,21 +11,6 @@ use Rattle.replaying.specs.Lines.{not_understood, answer_text}
 use Rattle.replaying.specs.Sessions.{told}
 use Rattle.replaying.specs.Replays.{stays, AllStay, TurnedText, Sessions, next}
 
--- a line that is not understood, and a call that is answered
-pub told_unknown : (cells n : ℕ) (l : Line) (ls : List Line) (after : List Step) (a b : List ℕ) → l ≡ NotUnderstood → b ≡ a ++ not_understood n → b ++ told cells (n + 1) ls after ≡ a ++ told cells n (l ∷ ls) after
-told_unknown cells n l ls after a b e f =
-    ap (λ x. x ++ told cells (n + 1) ls after) f ∙ append_assoc a (not_understood n) (told cells (n + 1) ls after) ∙ ap (λ k. a ++ told cells n (k ∷ ls) after) (sym e)
-
-pub told_nothing : (cells n : ℕ) (l : Line) (ls : List Line) (after : List Step) (a : List ℕ) (call : Call) → l ≡ CallLine call → length after ≡ 0 → a ++ told cells (n + 1) ls after ≡ a ++ told cells n (l ∷ ls) after
-told_nothing cells n l ls [] a call e h = ap (λ k. a ++ told cells n (k ∷ ls) []) (sym e)
-told_nothing cells n l ls (x ∷ after) a call e h = absurd (omega arith)
-
-pub told_call : (cells n : ℕ) (l : Line) (ls : List Line) (steps later : List Step) (step : Step) (call : Call) (a b : List ℕ) → l ≡ CallLine call → steps ≡ step ∷ later → b ≡ a ++ answer_text cells step step.answer
-    → b ++ told cells (n + 1) ls later ≡ a ++ told cells n (l ∷ ls) steps
-told_call cells n l ls steps later step call a b e h f =
-    ap (λ x. x ++ told cells (n + 1) ls later) f ∙ append_assoc a (answer_text cells step step.answer) (told cells (n + 1) ls later)
-    ∙ ap (λ k. a ++ told cells n (k ∷ ls) (step ∷ later)) (sym e) ∙ ap (λ s. a ++ told cells n (l ∷ ls) s) (sym h)
-
 -- one more line
 pub told_more : (cells first i : ℕ) (lines : List Line) (d l : Line) (rest later : List Step) (a b z : List ℕ) → i < length lines → get_or lines i d ≡ l
     → ((ls : List Line) → b ++ told cells (first + i + 1) ls later ≡ a ++ told cells (first + i) (l ∷ ls) rest)

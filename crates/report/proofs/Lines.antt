@@ -2,6 +2,7 @@
 use Rattle.std.proofs.Common.{◌≡◌, ℕ, ◌+◌, Bool, true, false, cond, List, [], ◌∷◌, ◌++◌, sym, refl, ap, ◌∙◌, append_assoc, append-nil, map-id, add-one, arith}
 use Rattle.std.specs.List.{range_with_len, flat_map}
 use Rattle.std.proofs.lemmas.List.{flat_map_more}
+use Rattle.std.proofs.lemmas.List.Concat.{flat_map-append}
 use Rattle.std.proofs.lemmas.List.FromFn.{map-range_with_len_more}
 use Rattle.bits.specs.Sets.{in?, below, members}
 
@@ -10,10 +11,6 @@ pub after_first : (out first word number rest was now : List ℕ) → first ≡ 
 after_first out first word number rest was now is p q =
     q ∙ ap (λ l. l ++ rest) (p ∙ ap (λ l. out ++ l) is) ∙ append_assoc out (word ++ (number ++ (10 ∷ []))) rest
     ∙ ap (λ l. out ++ l) (append_assoc word (number ++ (10 ∷ [])) rest ∙ ap (λ l. word ++ l) (append_assoc number (10 ∷ []) rest))
-
-joined_append : {X A : Type 0} (f : X → List A) (xs ys : List X) → flat_map f (xs ++ ys) ≡ flat_map f xs ++ flat_map f ys
-joined_append f [] ys = refl
-joined_append f (x ∷ xs) ys = ap (λ l. f x ++ l) (joined_append f xs ys) ∙ sym (append_assoc (f x) (flat_map f xs) (flat_map f ys))
 
 joined_cond : {X A : Type 0} (f : X → List A) (b : Bool) (x : X) → flat_map f (cond b (x ∷ []) []) ≡ cond b (f x) []
 joined_cond f true x = append-nil (f x)
@@ -24,7 +21,7 @@ pub rules_more : (f : ℕ → List ℕ) (s n : ℕ) (start was now : List ℕ) �
 unfolding below
 rules_more f s n start was now p q =
     q ∙ ap (λ l. l ++ cond (in? s n) (f n) []) p ∙ append_assoc start (flat_map f (below n s)) (cond (in? s n) (f n) [])
-    ∙ ap (λ l. start ++ l) (ap (λ l. flat_map f (below n s) ++ l) (sym (joined_cond f (in? s n) n)) ∙ sym (joined_append f (below n s) (cond (in? s n) (n ∷ []) [])) ∙ ap (λ k. flat_map f (below k s)) (sym (add-one n)))
+    ∙ ap (λ l. start ++ l) (ap (λ l. flat_map f (below n s) ++ l) (sym (joined_cond f (in? s n) n)) ∙ sym (flat_map-append f (below n s) (cond (in? s n) (n ∷ []) [])) ∙ ap (λ k. flat_map f (below k s)) (sym (add-one n)))
 
 pub rules_none : (f : ℕ → List ℕ) (s : ℕ) (start : List ℕ) → start ≡ start ++ flat_map f (below 0 s)
 unfolding below

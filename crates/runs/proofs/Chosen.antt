@@ -4,6 +4,7 @@ use Rattle.std.proofs.lemmas.List.FromFn.{length-map-range_with_len, get_or-map-
 use Rattle.std.proofs.lemmas.List.{get_or_past}
 use Rattle.std.proofs.lemmas.Bool.{cases_eq, cases_lt, cases_order}
 use Rattle.bits.specs.Sets.{In, size}
+use Rattle.bits.proofs.Size.{Two, size_two, size_zero, two_size}
 use Rattle.network.specs.Book.{BookMeaning, Remains}
 use Rattle.choosers.specs.Choice.{Machine, Naming, Open, figure, no_figure}
 use Rattle.choosers.specs.declared.chooser.Figure.{Figure}
@@ -11,7 +12,6 @@ use Rattle.runs.specs.Settle.{State, left_at, out_of, Empty}
 use Rattle.runs.specs.Figures.{figure_of, figures_of}
 use Rattle.runs.specs.Run.{Tried, Choice, Chosen}
 use Rattle.runs.specs.Law.{Full}
-use Rattle.runs.proofs.MoreBits.{Two, size_two, two_size, size_zero}
 use Rattle.runs.proofs.Steps.{out_keeps, set_full}
 
 -- ---- the place to try: the only lemmas that look into what it is

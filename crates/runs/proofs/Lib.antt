@@ -1,4 +1,3 @@
-pub mod MoreBits
 pub mod Turning
 pub mod Steps
 pub mod Settling

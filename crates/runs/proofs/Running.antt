@@ -5,6 +5,7 @@ use Rattle.std.proofs.lemmas.List.{ext_get_or, get_or-map}
 use Rattle.std.proofs.lemmas.Bool.{cases_eq, cases_lt}
 use Rattle.bits.specs.Sets.{In, Subset, size}
 use Rattle.bits.proofs.Bits.{has_zero}
+use Rattle.bits.proofs.Size.{some_of}
 use Rattle.network.specs.Book.{BookMeaning, Lawful, Supported, Remains}
 use Rattle.network.specs.Fillings.{row_of, MeetsAll, Inside, Meetable}
 use Rattle.choosers.specs.Choice.{Machine, Naming}
@@ -13,7 +14,6 @@ use Rattle.runs.specs.declared.line.Verdict.TheVariants.{Met}
 use Rattle.runs.specs.Settle.{State, left_at, cell_at, out_of, Settles, Fails}
 use Rattle.runs.specs.Run.{TryFails, TryFails.at_first, TryFails.at_last, Explores, Explores.filled, Explores.stands, Explores.goes_on, Explores.ends, Searches, Searches.fails, Searches.settled, Run, Run.ran}
 use Rattle.runs.specs.Law.{Suits, Full, Within, Closed, Marks, Settled, Ready, Fills, Right}
-use Rattle.runs.proofs.MoreBits.{some_of}
 use Rattle.runs.proofs.Steps.{out_within, out_inside, alone_within, alone_inside, alone_full}
 use Rattle.runs.proofs.Settling.{row_at, marks_trans, marks_refl, sound_settles, fails_spent, settles_law}
 use Rattle.runs.proofs.Chosen.{chosen, none_open, open_full, one_place}
@@ -190,7 +190,3 @@ module _ {C : Type 0} (k : Machine C) (naming : Naming k) (m : BookMeaning) (law
   pub run_fills : {x y : C} {ws ws' sets : List ℕ} {l : Line} → Run k m start listed x ws l y ws' sets → l.verdict ≡ Met → Fills m start listed sets
   run_fills (ran {found = true} p) e = fills_of refl (searches_found m listed (length start) ready.suits k naming ready.few law refl ready.full p)
   run_fills (ran {found = false} p) e = absurd (cc)
-
-pub run_lists : {C : Type 0} {k : Machine C} {m : BookMeaning} {start : List ℕ} {listed : ℕ} {x y : C} {ws ws' sets : List ℕ} {l : Line}
-    → Run k m start listed x ws l y ws' sets → l.listed ≡ listed
-run_lists (ran p) = refl

@@ -4,12 +4,11 @@ use lib.ListN.{length-map}
 use Rattle.std.proofs.lemmas.List.{get_or-map}
 use Rattle.std.proofs.lemmas.Bool.{cases_eq, cases_lt}
 use Rattle.bits.specs.Sets.{In}
-use Rattle.bits.proofs.Bits.{mark_same, mark_more}
+use Rattle.bits.proofs.Bits.{mark_same, mark_more, mark_only}
 use Rattle.network.specs.Book.{Rule, BookMeaning, Lawful, Supported, Remains}
 use Rattle.network.specs.Fillings.{row_of, Meets, MeetsAll, Inside}
 use Rattle.runs.specs.Settle.{Turns, Turns.none, Turns.more, Stops, State, state, left_at, cell_at, out_of, marked, total, Lost, Revises, Revises.absent, Revises.kept, Revises.removed, Empties, Empties.emptied, Position, PositionFails, Takes, TakesFails, Turn, Turn.unlisted, Turn.taken, Sweep, Settles, Settles.rest, Settles.again, Fails, Fails.at_once, Fails.later}
 use Rattle.runs.specs.Law.{Suits, Full, Within, Closed, Marks, Settled, Clash}
-use Rattle.runs.proofs.MoreBits.{mark_only}
 use Rattle.runs.proofs.Turning.{turns_keep}
 use Rattle.runs.proofs.Steps.{out_total, out_within, out_keeps, set_full}
 
@@ -273,7 +272,3 @@ module _ (m : BookMeaning) (listed n : ℕ) (suits : Suits m n) where
 
   pub fails_le : {r : ℕ} {s t : State} → length s.sets ≡ n → Fails m listed r s t → total t.sets ≤ total s.sets
   fails_le long p = omega (arith, (fails_spent p).less long)
-
-pub fails_known : {m : BookMeaning} {listed r : ℕ} {s t : State} → Fails m listed r s t → r < m.count
-fails_known (at_once p) = p.within
-fails_known (later p d q) = fails_known q

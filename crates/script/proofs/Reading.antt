@@ -1,14 +1,14 @@
 -- What can follow each first word of a line, and that a line says one thing alone. Assumes nothing.
 use Rattle.std.proofs.Common.{◌≡◌, ◌≢◌, ℕ, ◌+◌, ◌<◌, ◌≤◌, Bool, true, false, List, [], ◌∷◌, ◌++◌, map, take, length, Some, None, Option, codes, get_or, sym, refl, ap, ◌∙◌, subst, arith}
 use Rattle.std.specs.Option.{unwrap_or}
-use Rattle.std.proofs.lemmas.List.{take_all}
+use Rattle.std.proofs.lemmas.List.{take_all, map_more, get_or-map, length-map}
+use Rattle.bits.proofs.Lists.{each_at}
 use Rattle.std.specs.List.{AllByRecursion}
 use Rattle.calls.specs.declared.call.Call.TheVariants.{Pin, Free, Switch, Fit}
 use Rattle.script.specs.declared.line.Line.{Line}
 use Rattle.script.specs.declared.line.Line.TheVariants.{Blank, Call, Turn, NotUnderstood}
 use Rattle.script.specs.Words.{words_of, IsNumber, rule_number, cell_number}
 use Rattle.script.specs.Script.{flags_of, Says, blank, comment, pin, free, on_word, switch, fit, turn, Decided, ReadAs, understood, nothing, AreRead, none, more}
-use Rattle.script.proofs.Several.{map_more, mapped_at}
 
 -- the letter at a place of the first word
 abbrev letter : ℕ → List (List ℕ) → ℕ
@@ -100,20 +100,6 @@ blanks : (ws : List (List ℕ)) (l : Line) → ws ≡ [] → Says ws l → l ≡
 blanks ws l e blank = refl
 blanks ws l e _ = absurd cc
 
--- ---- any other first word says nothing
-pub other_says : (w : List ℕ) (rest : List (List ℕ)) → ((v : List ℕ) → w ≢ 35 ∷ v) → w ≢ codes "pin" → w ≢ codes "free" → w ≢ codes "switch" → w ≢ codes "fit" → w ≢ codes "turn"
-    → (l : Line) → Says (w ∷ rest) l → ⊥
-other_says w rest c p f s i t l h = others (w ∷ rest) l refl h
-  where
-    others : (ws : List (List ℕ)) (l : Line) → ws ≡ w ∷ rest → Says ws l → ⊥
-    others ws l e blank = cc
-    others ws l e (comment {w = v}) = c v cc
-    others ws l e (pin a b) = p cc
-    others ws l e (free a) = f cc
-    others ws l e (switch a) = s cc
-    others ws l e fit = i cc
-    others ws l e (turn a) = t cc
-
 -- ---- what two words, one word or no word say
 pub pin_line : {A : Type 0} (v : A → List ℕ) (xs : List A) (d e : A) (m n : ℕ) → 2 ≤ length xs → length xs < 3
     → IsNumber (v (get_or xs 0 d)) × (m ≡ cell_number (v (get_or xs 0 d))) → IsNumber (v (get_or xs 1 e)) × (n ≡ cell_number (v (get_or xs 1 e))) → Says (codes "pin" ∷ map v xs) (Call (Pin m n))
@@ -157,7 +143,7 @@ turn_all v xs i flags h a e = subst (λ ys. Says (codes "turn" ∷ map v ys) (Tu
 pub turn_none : {A : Type 0} (v : A → List ℕ) (xs : List A) (i : ℕ) (d : A) (o : Option Line) → i < length xs → (IsNumber (v (get_or xs i d)) → ⊥) → o ≡ None → Decided (codes "turn" ∷ map v xs) o
 turn_none v xs i d o h n e =
     subst (Decided (codes "turn" ∷ map v xs)) (sym e)
-    (λ l s. n (mapped_at v xs i d h (turn_says (map v xs) l s).are))
+    (λ l s. n (subst IsNumber (get_or-map v xs i d [] h) (each_at IsNumber (map v xs) [] (turn_says (map v xs) l s).are i (omega (arith, length-map xs v)))))
 
 -- ---- a line, by its words
 pub read_line : (text w : List ℕ) (rest : List (List ℕ)) (o : Option Line) (l : Line) → words_of text ≡ w ∷ rest → Decided (w ∷ rest) o → l ≡ unwrap_or o NotUnderstood → ReadAs text l

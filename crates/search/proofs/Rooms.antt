@@ -4,8 +4,8 @@ use Rattle.std.proofs.lemmas.Nat.{mul-le}
 use Rattle.std.proofs.lemmas.List.{get_or-set_same}
 use Rattle.std.proofs.lemmas.Bool.{cases_lt, lt-ltb, le-ltb}
 use Rattle.bits.specs.Sets.{size}
+use Rattle.bits.proofs.Size.{size_pow, size_sub}
 use Rattle.runs.specs.Law.{Full, Within}
-use Rattle.runs.proofs.MoreBits.{size_sub, size_pow}
 use Rattle.runs.proofs.Steps.{alone_within, alone_full}
 use Rattle.runs.specs.Run.{Chosen}
 use Rattle.search.specs.Room.{opens, Able}

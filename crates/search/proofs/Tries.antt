@@ -3,6 +3,7 @@ use Rattle.std.proofs.Common.{◌≡◌, ℕ, ◌+◌, ◌-◌, ◌*◌, ◌^◌
 use Rattle.std.proofs.lemmas.Bool.{cases_eq, false≢true, true≢false}
 use Rattle.bits.specs.Sets.{In, Lowest, size}
 use Rattle.bits.proofs.Bits.{has_le}
+use Rattle.bits.proofs.Size.{size_pow, size_zero}
 use Rattle.network.specs.Book.{BookMeaning}
 use Rattle.choosers.specs.Choice.{Machine, Naming}
 use Rattle.choosers.specs.declared.chooser.Event.TheVariants.{Failed, Stood}
@@ -10,7 +11,6 @@ use Rattle.runs.specs.Settle.{State, state, left_at, out_of, total, Settles, Fai
 use Rattle.runs.specs.Figures.{figures_of}
 use Rattle.runs.specs.Run.{back, Choice, TryFails, TryFails.at_first, TryFails.at_last, TryStands, Chosen, Explores, Explores.stands, Explores.goes_on, Explores.ends}
 use Rattle.runs.specs.Law.{Settled}
-use Rattle.runs.proofs.MoreBits.{size_pow, size_zero}
 use Rattle.runs.proofs.Steps.{total_set, out_total, out_within}
 use Rattle.runs.proofs.Chosen.{chosen, open_full}
 use Rattle.search.specs.Room.{Able}

@@ -6,7 +6,7 @@ use Rattle.std.proofs.lemmas.List.Elements.{filter-append}
 use Rattle.std.proofs.lemmas.List.{append-nil, drop-set-lt, get_or-set_same, get_or-set_other}
 use Rattle.std.proofs.lemmas.Bool.{cases_eq}
 use Rattle.bits.specs.Sets.{set_of}
-use Rattle.cores.proofs.SetFacts.{set_push}
+use Rattle.bits.proofs.SetOf.{set_push}
 use Rattle.calls.specs.History.{set_where}
 use Rattle.session.specs.Pins.{LowestByte}
 

@@ -7,9 +7,9 @@ use Rattle.std.proofs.lemmas.Bool.{true≢false, cases_eq}
 use Rattle.std.proofs.lemmas.Nat.{leading_length, leading_top, le-div, div_below}
 use Rattle.bits.specs.Sets.{In}
 use Rattle.bits.proofs.Bits.{has_zero, has_le}
+use Rattle.bits.proofs.Size.{not_zero}
 use Rattle.network.specs.Book.{BookMeaning, Supported, Remains}
 use Rattle.runs.specs.Settle.{Turns, Turns.none, Turns.more, State, state, cell_at, Lost, Empty, total, out_of, weighed, Revises, Revises.absent, Revises.kept, Revises.removed, Empties, Empties.emptied}
-use Rattle.runs.proofs.MoreBits.{not_zero}
 use Rattle.runs.proofs.Steps.{out_total, out_within}
 use Rattle.settling.specs.Report.{Report}
 

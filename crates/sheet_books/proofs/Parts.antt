@@ -1,36 +1,16 @@
 -- Parts of a store, and the cells of a stored rule. Assumes nothing.
 use Rattle.std.proofs.Common.{◌≡◌, ℕ, zero, suc, ◌-◌, ◌<◌, ◌≤◌, min, List, [], ◌∷◌, map, length, get_or, take, replicate, sym, refl, ap, ◌∙◌, ⊎_elim, arith, length-append}
 use lib.ListN.{length-replicate}
-use Rattle.std.specs.List.{range_with_len}
+use Rattle.std.specs.List.{range_with_len, AllByRecursion}
 use Rattle.std.proofs.lemmas.List.{get_or_append_left, take_at, take_all}
 use Rattle.std.proofs.lemmas.Bool.{cases_lt}
 use Rattle.std.proofs.lemmas.List.FromFn.{fill_by_all}
 use Rattle.network.specs.Cells.{GoodCells}
-use Rattle.sheets.specs.Sheet.{Each}
 use Rattle.sheets.specs.Stored.{filled}
 
 module _ {X : Type 0} (blank : X) (n : ℕ) (xs : List X) where
   pub filled_take : (m : ℕ) → length xs ≡ m → take m (filled blank n xs) ≡ xs
   filled_take m e = take_at xs (replicate (n - length xs) blank) m e
-
-  pub filled_length : length xs ≤ n → length (filled blank n xs) ≡ n
-  filled_length h = length-append xs (replicate (n - length xs) blank) ∙ omega (arith, length-replicate (n - length xs) blank)
-
--- a count past the end is cut to it
-pub take_cut : {X : Type 0} (n m : ℕ) (xs : List X) → m ≡ min n (length xs) → take m xs ≡ take n xs
-take_cut n m xs e = ⊎_elim
-    (λ (l : n < length xs). let z : m ≡ n = omega arith in ap (λ k. take k xs) z)
-    (λ (l : length xs ≤ n). take_all m xs (omega arith) ∙ sym (take_all n xs l))
-    (cases_lt n (length xs))
-
-pub each_at : {X : Type 0} (P : X → Type 0) (xs : List X) (d : X) → Each P xs → (i : ℕ) → i < length xs → P (get_or xs i d)
-each_at P [] d h i l = absurd (omega arith)
-each_at P (x ∷ xs) d h zero l = h.0
-each_at P (x ∷ xs) d h (suc i) l = each_at P xs d h.1 i (omega arith)
-
-pub each_map : {X : Type 0} (P Q : X → Type 0) (xs : List X) → ((x : X) → P x → Q x) → Each P xs → Each Q xs
-each_map P Q [] f h = tt
-each_map P Q (x ∷ xs) f h = (f x h.0, each_map P Q xs f h.1)
 
 -- the first of the stored cells are those of the rule
 pub cell_there : (cs : List ℕ) (k : ℕ) → k < length cs → get_or (filled 0 4 cs) k 0 ≡ get_or cs k 0

@@ -1,51 +1,30 @@
 -- The rules by rows of a sheet, as they lie in the stores. Assumes nothing.
-use Rattle.std.proofs.Common.{◌≡◌, ℕ, zero, suc, ◌+◌, ◌*◌, ◌<◌, ◌≤◌, true, not, ◌&&◌, ◌||◌, eqb, List, [], ◌∷◌, ◌++◌, length, get_or, ℤ, Decides, sym, refl, ap, ◌∙◌, subst, ⊎_elim, append_assoc, suc-mul, zero-mul, arith, length-append}
-use Rattle.std.specs.List.{flat_map}
+use Rattle.std.proofs.Common.{◌≡◌, ℕ, zero, suc, ◌+◌, ◌*◌, ◌<◌, ◌≤◌, true, not, ◌&&◌, ◌||◌, eqb, List, [], ◌∷◌, ◌++◌, length, get_or, drop, ℤ, Decides, sym, refl, ap, ◌∙◌, subst, ⊎_elim, append_assoc, suc-mul, zero-mul, arith, length-append}
+use Rattle.std.specs.List.{flat_map, AllByRecursion}
 use Rattle.std.specs.Str.{bytes_eq}
 use Rattle.std.proofs.lemmas.List.FromFn.{fill_by_all}
 use Rattle.std.proofs.lemmas.Slice.Eq.{bytes_eq-Decides}
-use Rattle.std.proofs.lemmas.List.{get_or_append_left, get_or-append-add}
+use Rattle.std.proofs.lemmas.List.{get_or-drop, get_or-take}
 use Rattle.std.proofs.lemmas.Bool.{or_cases, or_left, or_right, false≢true}
 use Rattle.std.proofs.lemmas.Bool.Decides.{same_from_decides, Decides-like}
+use Rattle.bits.proofs.Lists.{each_at}
 use Rattle.rows.specs.declared.rule.Kind.{Kind}
 use Rattle.rows.specs.declared.rule.Kind.TheVariants.{Permitted, Forbidden}
 use Rattle.rows.specs.declared.rule.RowsRule.{RowsRule}
 use Rattle.rows.specs.Rows.{no_rows, Fit, WellFormed, place_at, row_at, stores, permits_of, rule_of}
 use Rattle.rows.proofs.Rows.{stores_decides}
-use Rattle.sheets.specs.Sheet.{RowsField, GoodRows, Each}
+use Rattle.sheets.specs.Sheet.{RowsField, GoodRows}
 use Rattle.sheets.specs.Stored.{places_of, stored_rule_of, rules_of}
 use Rattle.sheets.specs.Meaning.{one_of, permits_row, rows_rule, no_rows as no_field}
 use Rattle.sheets.proofs.Storing.{length_rules}
-use Rattle.sheet_books.proofs.Parts.{each_at, cells_there, cells_good}
-
--- ---- rows of one width, one after another
-abbrev pub Wide : ℕ → List (List ℕ) → Type 0
-Wide w rs = (i : ℕ) → i < length rs → length (get_or rs i []) ≡ w
-
-abbrev pub run : List (List ℕ) → List ℕ
-run rs = flat_map (λ row. row) rs
-
-run_length : (w : ℕ) (rs : List (List ℕ)) → Wide w rs → length (run rs) ≡ length rs * w
-run_length w [] h = sym (zero-mul w)
-run_length w (r ∷ rs) h =
-    length-append r (run rs)
-    ∙ omega (arith, h 0 (omega arith), run_length w rs (λ i g. h (suc i) (omega arith)), suc-mul (length rs) w)
+use Rattle.sheets.proofs.Wide.{Wide, run, run_length, row_part}
+use Rattle.sheet_books.proofs.Parts.{cells_there, cells_good}
 
 -- p stands before the rows, and m is its length
 place_there : (w : ℕ) (rs : List (List ℕ)) (m : ℕ) (p q bytes : List ℕ) → Wide w rs → length p ≡ m → bytes ≡ p ++ (run rs ++ q)
     → (j k : ℕ) → j < length rs → k < w → get_or bytes (m + j * w + k) 0 ≡ get_or (get_or rs j []) k 0
-place_there w [] m p q bytes h l e j k a b = absurd (omega arith)
-place_there w (r ∷ rs) m p q bytes h l e zero k a b =
-    let n : m + 0 * w + k ≡ length p + k = omega (arith, zero-mul w) in
-    let wide : k < length r = omega (arith, h 0 (omega arith)) in
-    ap (λ i. get_or bytes i 0) n ∙ ap (λ x. get_or x (length p + k) 0) e ∙ get_or-append-add p ((r ++ run rs) ++ q) k 0
-    ∙ ap (λ x. get_or x k 0) (append_assoc r (run rs) q) ∙ get_or_append_left r (run rs ++ q) 0 k wide
-place_there w (r ∷ rs) m p q bytes h l e (suc j) k a b =
-    let n : m + suc j * w + k ≡ (m + w) + j * w + k = omega (arith, suc-mul j w) in
-    ap (λ i. get_or bytes i 0) n
-    ∙ place_there w rs (m + w) (p ++ r) q bytes (λ i g. h (suc i) (omega arith))
-    (length-append p r ∙ omega (arith, h 0 (omega arith)))
-    (e ∙ ap (λ x. p ++ x) (append_assoc r (run rs) q) ∙ sym (append_assoc p r (run rs ++ q))) j k (omega arith) b
+place_there w rs m p q bytes h l e j k a b =
+    sym (get_or-drop (m + j * w) bytes k 0) ∙ sym (get_or-take w (drop (m + j * w) bytes) k 0 b) ∙ ap (λ r. get_or r k 0) (row_part w rs m p q bytes h l e j a)
 
 one_of_decides : (row : List ℕ) (rs : List (List ℕ)) → Decides (one_of row rs) ((j : ℕ) × (j < length rs) × (get_or rs j [] ≡ row))
 one_of_decides row [] = ((λ f. absurd (false≢true f)), (λ a. absurd (omega (arith, a.1))))
@@ -110,7 +89,7 @@ rule_there (x ∷ xs) n p q bytes l e (suc r) h =
     (e ∙ ap (λ y. p ++ y) (append_assoc (places_of x) (flat_map places_of xs) q) ∙ sym (append_assoc p (places_of x) (flat_map places_of xs ++ q))) r (omega arith) in
     record { start = i.start; before = i.before; after = i.after; is = i.is; long = i.long; said = i.said }
 
-module _ (lists : List (List ℤ)) (xs : List RowsField) (q : List ℕ) (few : length lists ≤ 64) (good : Each (GoodRows lists) xs) where
+module _ (lists : List (List ℤ)) (xs : List RowsField) (q : List ℕ) (few : length lists ≤ 64) (good : AllByRecursion (GoodRows lists) xs) where
   abbrev bytes : List ℕ
   bytes = flat_map places_of xs ++ q
 

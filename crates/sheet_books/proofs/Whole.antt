@@ -3,6 +3,7 @@ use Rattle.std.proofs.Common.{◌≡◌, ℕ, ◌-◌, ◌<◌, ◌≤◌, ltb, 
 use lib.ListN.{length-map}
 use Rattle.std.specs.List.{flat_map}
 use Rattle.std.proofs.lemmas.Bool.{cases_lt, lt-ltb, le-ltb, cond-true, cond-false}
+use Rattle.bits.proofs.Lists.{each_map}
 use Rattle.network.specs.Book.{Rule, no_rule}
 use Rattle.rows.specs.Rows.{no_rows, rule_of as rows_rule_of, WellFormed as GoodRules}
 use Rattle.formulas.specs.declared.node.Node.{Node}
@@ -15,7 +16,7 @@ use Rattle.sheets.specs.Stored.{Contents, stored, extent_of, places_of, rules_of
 use Rattle.sheets.specs.Meaning.{Means, rule_at, rows_rule, formula_rule, no_rows as no_field, no_condition}
 use Rattle.sheets.proofs.Storing.{length_rules, length_formulas}
 use Rattle.sheet_books.specs.Books.{Holds, Lends, book_of}
-use Rattle.sheet_books.proofs.Parts.{filled_take, each_map}
+use Rattle.sheet_books.proofs.Parts.{filled_take}
 use Rattle.sheet_books.proofs.StoredRows.{rows_well_formed, rows_cells, rows_permits}
 use Rattle.sheet_books.proofs.StoredFormulas.{formulas_well_formed, formula_cells, formula_permits}
 use Rattle.sheet_books.proofs.StoredNumbers.{Short, spread}

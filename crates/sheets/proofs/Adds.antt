@@ -1,11 +1,12 @@
 -- A sheet read field by field. Assumes nothing.
 use Rattle.std.proofs.Common.{◌≡◌, ℕ, ◌+◌, ◌<◌, ◌≢◌, List, [], ◌∷◌, ◌++◌, map, length, ℤ, sym, refl, ap, ◌∙◌, ⊎_elim, append_assoc, append-nil, arith, length-append}
 use mathlib.Core.List.{map-append}
-use Rattle.std.specs.List.{flat_map}
+use Rattle.std.specs.List.{flat_map, AllByRecursion}
+use Rattle.std.proofs.lemmas.List.Concat.{flat_map-append}
+use Rattle.bits.proofs.Lists.{each_push}
 use Rattle.formulas.specs.Tree.{Condition}
-use Rattle.sheets.specs.Sheet.{Sheet, RowsField, Field, field_bytes, cell_field, rows_field, formula_field, fields_of, bytes_of, GoodList, GoodRows, GoodFormula, Each, Good, with_list, with_rows, with_formula}
+use Rattle.sheets.specs.Sheet.{Sheet, RowsField, Field, field_bytes, cell_field, rows_field, formula_field, fields_of, bytes_of, GoodList, GoodRows, GoodFormula, Good, with_list, with_rows, with_formula}
 use Rattle.sheets.specs.Reading.{Fits, cell, rows, formula, Full}
-use Rattle.sheets.proofs.Fields.{joined_append}
 
 -- one more good field
 pub data Adds (s : Sheet) : Field → Sheet → Type 0 where
@@ -13,11 +14,7 @@ pub data Adds (s : Sheet) : Field → Sheet → Type 0 where
   adds_rows : (x : RowsField) → s.formulas ≡ [] → length s.rows + length s.formulas < 64 → GoodRows s.lists x → Adds s (rows_field x) (with_rows s x)
   adds_formula : (c : Condition) → length s.rows + length s.formulas < 64 → GoodFormula s.lists c → Adds s (formula_field c) (with_formula s c)
 
-each_append : {X : Type 0} (P : X → Type 0) (xs : List X) (x : X) → Each P xs → P x → Each P (xs ++ (x ∷ []))
-each_append P [] x h p = (p, tt)
-each_append P (y ∷ xs) x h p = (h.0, each_append P xs x h.1 p)
-
-each_none : {X : Type 0} (P : X → Type 0) (xs : List X) → xs ≡ [] → Each P xs
+each_none : {X : Type 0} (P : X → Type 0) (xs : List X) → xs ≡ [] → AllByRecursion P xs
 each_none P [] e = tt
 each_none P (x ∷ xs) e = let z : ◌≡◌ {A = ℕ} 0 1 = cc in absurd (omega arith)
 
@@ -25,7 +22,7 @@ pub adds_good : {s t : Sheet} {f : Field} → Good s → Adds s f t → Good t
 adds_good {s} g (adds_list zs e q few h) = record {
   few_cells = omega (arith, length-append s.lists (zs ∷ []));
   few_rules = g.few_rules;
-  lists = each_append GoodList s.lists zs g.lists h;
+  lists = each_push GoodList s.lists zs g.lists h;
   rows = each_none _ s.rows e;
   formulas = each_none _ s.formulas q;
 }
@@ -33,7 +30,7 @@ adds_good {s} g (adds_rows x q few h) = record {
   few_cells = g.few_cells;
   few_rules = omega (arith, length-append s.rows (x ∷ []));
   lists = g.lists;
-  rows = each_append (GoodRows s.lists) s.rows x g.rows h;
+  rows = each_push (GoodRows s.lists) s.rows x g.rows h;
   formulas = g.formulas;
 }
 adds_good {s} g (adds_formula c few h) = record {
@@ -41,7 +38,7 @@ adds_good {s} g (adds_formula c few h) = record {
   few_rules = omega (arith, length-append s.formulas (c ∷ []));
   lists = g.lists;
   rows = g.rows;
-  formulas = each_append (GoodFormula s.lists) s.formulas c g.formulas h;
+  formulas = each_push (GoodFormula s.lists) s.formulas c g.formulas h;
 }
 
 pub adds_fields : {s t : Sheet} {f : Field} → Adds s f t → fields_of t ≡ fields_of s ++ (f ∷ [])
@@ -63,7 +60,7 @@ adds_fields {s} (adds_formula c few h) =
     ∙ simp append_assoc
 
 pub adds_bytes : {s t : Sheet} {f : Field} → Adds s f t → bytes_of t ≡ bytes_of s ++ field_bytes f
-adds_bytes {s} {t} {f} a = ap (flat_map field_bytes) (adds_fields a) ∙ joined_append (fields_of s) (f ∷ []) ∙ ap (λ l. bytes_of s ++ l) (append-nil (field_bytes f))
+adds_bytes {s} {t} {f} a = ap (flat_map field_bytes) (adds_fields a) ∙ flat_map-append field_bytes (fields_of s) (f ∷ []) ∙ ap (λ l. bytes_of s ++ l) (append-nil (field_bytes f))
 
 -- the tag of a good field fits, and is not the end's
 pub adds_fits : {s t : Sheet} {f : Field} → Adds s f t → Fits s f.tag

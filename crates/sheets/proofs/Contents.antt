@@ -6,20 +6,21 @@ use Rattle.rows.specs.declared.rule.Kind.{Kind}
 use Rattle.rows.specs.declared.rule.Kind.TheVariants.{Permitted, Forbidden}
 use Rattle.sheets.specs.Sheet.{RowsField, four_bytes, list_bytes, kind_byte, rows_bytes, GoodRows}
 use Rattle.sheets.proofs.Fields.{same_front, byte}
+use Rattle.sheets.proofs.Wide.{Wide}
 
 -- a number of at most a million fits 32 bits
 pub small_fits : (z : ℤ) → nat_abs z ≤ 1000000 → SFits w32 z
 small_fits (pos n) h = record { sfits = omega arith }
 small_fits (negsuc n) h = record { sfits = omega arith }
 
-four_unique : (y z : ℤ) → nat_abs y ≤ 1000000 → nat_abs z ≤ 1000000 → (r t : List ℕ) → four_bytes y ++ r ≡ four_bytes z ++ t → (y ≡ z) × (r ≡ t)
+pub four_unique : (y z : ℤ) → SFits w32 y → SFits w32 z → (r t : List ℕ) → four_bytes y ++ r ≡ four_bytes z ++ t → (y ≡ z) × (r ≡ t)
 four_unique y z p q r t e =
     let a = byte _ _ _ _ e in
     let b = byte _ _ _ _ a.1 in
     let c = byte _ _ _ _ b.1 in
     let d = byte _ _ _ _ c.1 in
     let n : of_z w32 y ≡ of_z w32 z = omega (arith, a.0, b.0, c.0, d.0) in
-    (sym (to_z-of_z w32 y (small_fits y p)) ∙ ap (to_z w32) n ∙ to_z-of_z w32 z (small_fits z q), d.1)
+    (sym (to_z-of_z w32 y p) ∙ ap (to_z w32) n ∙ to_z-of_z w32 z q, d.1)
 
 abbrev Small : List ℤ → Type 0
 Small zs = (k : ℕ) → k < length zs → nat_abs (get_or zs k (pos 0)) ≤ 1000000
@@ -29,13 +30,9 @@ lists_unique [] [] p q e = refl
 lists_unique [] (z ∷ zs) p q e = absurd (omega (arith, ap length e))
 lists_unique (y ∷ ys) [] p q e = absurd (omega (arith, ap length e))
 lists_unique (y ∷ ys) (z ∷ zs) p q e =
-    let i = four_unique y z (p 0 (omega arith)) (q 0 (omega arith)) (list_bytes ys) (list_bytes zs) e in
+    let i = four_unique y z (small_fits y (p 0 (omega arith))) (small_fits z (q 0 (omega arith))) (list_bytes ys) (list_bytes zs) e in
     let j = lists_unique ys zs (λ k h. p (suc k) (omega arith)) (λ k h. q (suc k) (omega arith)) i.1 in
     λ k. i.0 k ∷ j k
-
--- rows of one width
-abbrev Wide : ℕ → List (List ℕ) → Type 0
-Wide w rs = (i : ℕ) → i < length rs → length (get_or rs i []) ≡ w
 
 rows_apart : (w : ℕ) (qs rs : List (List ℕ)) → 1 ≤ w → Wide w qs → Wide w rs → flat_map (λ row. row) qs ≡ flat_map (λ row. row) rs → qs ≡ rs
 rows_apart w [] [] some p q e = refl

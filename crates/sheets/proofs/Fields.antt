@@ -30,10 +30,6 @@ field_unique f g r t e =
     let d = same_front f.content g.content r t l c.1 in
     ((λ i. record { tag = a.0 i; content = d.0 i }), d.1)
 
-pub joined_append : (fs gs : List Field) → flat_map field_bytes (fs ++ gs) ≡ flat_map field_bytes fs ++ flat_map field_bytes gs
-joined_append [] gs = refl
-joined_append (f ∷ fs) gs = ap (λ l. field_bytes f ++ l) (joined_append fs gs) ∙ sym (append_assoc (field_bytes f) (flat_map field_bytes fs) (flat_map field_bytes gs))
-
 -- of two sequences of fields that the same bytes begin with, one begins with the other
 pub fields_split : (fs gs : List Field) (r t : List ℕ) → flat_map field_bytes fs ++ r ≡ flat_map field_bytes gs ++ t
     → ((hs : List Field) × (fs ≡ gs ++ hs) × (t ≡ flat_map field_bytes hs ++ r)) ⊎ ((hs : List Field) × (gs ≡ fs ++ hs) × (r ≡ flat_map field_bytes hs ++ t))

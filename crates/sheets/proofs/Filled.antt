@@ -3,14 +3,8 @@ use Rattle.std.proofs.Common.{◌≡◌, ℕ, suc, ◌+◌, ◌-◌, ◌<◌, �
 use borrow.Rule.Slice.PartMut.{put_mid}
 use lib.ListN.{length-replicate, replicate-append-replicate}
 use Rattle.std.proofs.lemmas.List.{take_at, drop_at, drop-drop, set_split, take-replicate, drop-replicate, drop_all, take_rest}
+use Rattle.std.proofs.Math.Seq.{take-append-add, drop-append-add}
 use Rattle.sheets.specs.Stored.{filled}
-
-pub take_past : {X : Type 0} (xs ys : List X) (k : ℕ) → take (length xs + k) (xs ++ ys) ≡ xs ++ take k ys
-take_past [] ys k = ap (λ n. take n ys) (zero-add k)
-take_past (x ∷ xs) ys k = ap (λ n. take n (x ∷ (xs ++ ys))) (native.Mathlib.Nat.suc-add (length xs) k) ∙ ap (λ l. x ∷ l) (take_past xs ys k)
-
-pub drop_past : {X : Type 0} (xs ys : List X) (k : ℕ) → drop (length xs + k) (xs ++ ys) ≡ drop k ys
-drop_past xs ys k = sym (drop-drop k (length xs) (xs ++ ys)) ∙ ap (drop k) (drop_at xs ys (length xs) refl)
 
 module _ {X : Type 0} (b : X) (n : ℕ) where
   pub length_filled : (xs : List X) → length xs ≤ n → length (filled b n xs) ≡ n
@@ -21,7 +15,7 @@ module _ {X : Type 0} (b : X) (n : ℕ) where
 
   -- what lies past the first things
   pub drop_filled : (xs : List X) (k : ℕ) → drop (length xs + k) (filled b n xs) ≡ replicate (n - length xs - k) b
-  drop_filled xs k = drop_past xs (replicate (n - length xs) b) k ∙ drop-replicate k (n - length xs) b
+  drop_filled xs k = drop-append-add xs (replicate (n - length xs) b) k ∙ drop-replicate k (n - length xs) b
 
   -- some more things written after the first ones
   pub filled_block : (xs ys : List X) → length xs + length ys ≤ n → take (length xs) (filled b n xs) ++ (ys ++ drop (length xs + length ys) (filled b n xs)) ≡ filled b n (xs ++ ys)
@@ -46,7 +40,7 @@ module _ {X : Type 0} (b : X) (n : ℕ) where
   take_filled m xs h l =
       let parts : m ≡ length xs + (m - length xs) = omega arith in
       ap (λ k. take k (filled b n xs)) parts
-      ∙ take_past xs (replicate (n - length xs) b) (m - length xs)
+      ∙ take-append-add xs (replicate (n - length xs) b) (m - length xs)
       ∙ ap (λ r. xs ++ r) (take-replicate (m - length xs) (n - length xs) b (omega arith))
 
   pub filled_front : (m : ℕ) (xs ys : List X) → length xs ≤ m → length ys ≤ m → m ≤ n → filled b m ys ++ drop m (filled b n xs) ≡ filled b n ys

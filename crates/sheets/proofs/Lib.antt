@@ -1,6 +1,7 @@
 pub mod Fields
 pub mod Adds
 pub mod Wrongs
+pub mod Wide
 pub mod Contents
 pub mod Exact
 pub mod Outcomes

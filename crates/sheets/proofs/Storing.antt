@@ -1,17 +1,13 @@
 -- What the stores hold after one more field. Assumes nothing.
 use Rattle.std.proofs.Common.{◌≡◌, ℕ, suc, ◌+◌, ◌*◌, ◌≤◌, List, [], ◌∷◌, ◌++◌, map, length, ℤ, pos, sym, refl, ap, ◌∙◌, append_assoc, append-nil, arith, length-append}
-use Rattle.std.specs.List.{flat_map}
-use Rattle.std.proofs.lemmas.List.{flat_map_more}
+use Rattle.std.specs.List.{flat_map, AllByRecursion}
+use Rattle.std.proofs.lemmas.List.Concat.{flat_map-append}
 use Rattle.formulas.specs.Tree.{Condition}
 use Rattle.formulas.specs.Layout.{size, layout}
 use Rattle.formulas.proofs.Layouts.{size_layout, size_text}
-use Rattle.sheets.specs.Sheet.{Sheet, RowsField, field_bytes, cell_field, rows_field, formula_field, bytes_of, GoodList, Each}
+use Rattle.sheets.specs.Sheet.{Sheet, RowsField, field_bytes, cell_field, rows_field, formula_field, bytes_of, GoodList}
 use Rattle.sheets.specs.Stored.{filled, places_of, stored_rule_of, rules_of, formula_of, formulas_of, nodes_of}
-use Rattle.sheets.proofs.Fields.{joined_append}
 use Rattle.sheets.proofs.Filled.{length_filled}
-
-pub joined_push : {X A : Type 0} (f : X → List A) (xs : List X) (x : X) → flat_map f (xs ++ (x ∷ [])) ≡ flat_map f xs ++ f x
-joined_push f xs x = sym (flat_map_more f [] xs x)
 
 -- rules by rows
 pub rules_more : (n : ℕ) (xs : List RowsField) (x : RowsField) → rules_of n (xs ++ (x ∷ [])) ≡ rules_of n xs ++ (stored_rule_of (n + length (flat_map places_of xs)) x ∷ [])
@@ -51,7 +47,7 @@ nodes_count cs c =
     ∙ ap (λ k. length (nodes_of 0 cs) + k) (size_layout (0 + length (nodes_of 0 cs)) c)
 
 -- lists, 64 places each
-pub length_numbers : (ls : List (List ℤ)) → Each GoodList ls → length (flat_map (filled (pos 0) 64) ls) ≡ 64 * length ls
+pub length_numbers : (ls : List (List ℤ)) → AllByRecursion GoodList ls → length (flat_map (filled (pos 0) 64) ls) ≡ 64 * length ls
 length_numbers [] g = refl
 length_numbers (l ∷ ls) g =
     length-append (filled (pos 0) 64 l) (flat_map (filled (pos 0) 64) ls)
@@ -79,8 +75,8 @@ bytes_parts s =
     let a = map cell_field s.lists in
     let b = map rows_field s.rows in
     let c = map formula_field s.formulas in
-    ap length (joined_append a (b ++ c)) ∙ length-append (flat_map field_bytes a) (flat_map field_bytes (b ++ c))
-    ∙ ap (λ k. length (flat_map field_bytes a) + k) (ap length (joined_append b c) ∙ length-append (flat_map field_bytes b) (flat_map field_bytes c))
+    ap length (flat_map-append field_bytes a (b ++ c)) ∙ length-append (flat_map field_bytes a) (flat_map field_bytes (b ++ c))
+    ∙ ap (λ k. length (flat_map field_bytes a) + k) (ap length (flat_map-append field_bytes b c) ∙ length-append (flat_map field_bytes b) (flat_map field_bytes c))
 
 pub places_within : (s : Sheet) → length (flat_map places_of s.rows) ≤ length (bytes_of s)
 places_within s = omega (arith, rows_short s.rows, bytes_parts s)

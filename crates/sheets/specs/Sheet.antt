@@ -2,7 +2,7 @@
 use Rattle.std.specs.Prelude.{◌≡◌, ℕ, ◌+◌, ◌/◌, ◌%◌, ◌<◌, ◌≤◌, List, [], ◌∷◌, ◌++◌, map, length, ℤ, pos, ◌≢◌, slice_index, slice_index_or, unsigned_abs}
 use Rattle.std.proofs.Common.{of_z}
 use Rattle.std.specs.Int.{w32}
-use Rattle.std.specs.List.{flat_map}
+use Rattle.std.specs.List.{flat_map, AllByRecursion}
 use Rattle.rows.specs.declared.rule.Kind.{Kind}
 use Rattle.rows.specs.declared.rule.Kind.TheVariants.{Permitted, Forbidden}
 use Rattle.formulas.specs.Tree.{Condition, text}
@@ -100,15 +100,10 @@ pub record GoodRows (lists : List (List ℤ)) (r : RowsField) : Type 0 where
 abbrev pub GoodFormula : List (List ℤ) → Condition → Type 0
 GoodFormula lists c = Accepted (length lists) (text c) c
 
--- each of some things is so
-abbrev pub Each : {X : Type 0} → (X → Type 0) → List X → Type 0
-Each P [] = Unit {0}
-Each P (x ∷ xs) = P x × Each P xs
-
 -- at most 64 good lists, and at most 64 good rules
 pub record Good (s : Sheet) : Type 0 where
   pub few_cells : length s.lists ≤ 64
   pub few_rules : length s.rows + length s.formulas ≤ 64
-  pub lists : Each GoodList s.lists
-  pub rows : Each (GoodRows s.lists) s.rows
-  pub formulas : Each (GoodFormula s.lists) s.formulas
+  pub lists : AllByRecursion GoodList s.lists
+  pub rows : AllByRecursion (GoodRows s.lists) s.rows
+  pub formulas : AllByRecursion (GoodFormula s.lists) s.formulas

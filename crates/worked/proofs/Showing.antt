@@ -1,11 +1,11 @@
 -- Every play of some calls shows what the evaluation gives, and leaves what it gives. Assumes nothing.
 use Rattle.std.proofs.Common.{◌≡◌, ℕ, zero, suc, ◌/◌, ◌^◌, ◌<◌, ◌≤◌, ◌≢◌, Bool, true, ◌&&◌, List, [], ◌∷◌, length, get_or, map, take, Some, None, Option, vec_items, nat_lt, sym, refl, ap, ◌∙◌, subst, subst₂, inl, inr, arith, pow_mono}
 use Rattle.std.proofs.lemmas.Bool.{cond_both, ltb-true, and_parts, cases_eq, cases_lt}
-use Rattle.std.proofs.lemmas.List.{length-take-le, ext_get_or}
+use Rattle.std.proofs.lemmas.List.{length-take-le, ext_get_or, get_or-map}
 use lib.ListN.{length-map}
 use native.Mathlib.Nat.{div-eq_of_lt}
 use Rattle.bits.specs.Sets.{In}
-use Rattle.bits.proofs.Bits.{has_pow}
+use Rattle.bits.proofs.Bits.{has_pow, in_below}
 use Rattle.network.specs.Book.{BookMeaning}
 use Rattle.choosers.specs.Choice.{Machine}
 use Rattle.runs.specs.declared.line.Line.{Line}
@@ -26,7 +26,7 @@ use Rattle.calls.specs.History.{Did, standing, is_on, set_where, on_after}
 use Rattle.calls.specs.Plays.{sizes, did, Makes, refused, changed, fitted, none as no_calls, more as and_more}
 use Rattle.calls.specs.Runs.{Ran, start_after, Alone, Comes, StepRuns, PlaysByRuns}
 use Rattle.calls.proofs.Fillings.{starts_long}
-use Rattle.calls.proofs.Following.{judged_same, said_same}
+use Rattle.calls.proofs.Following.{judged_same, said_same, values_same, did_same}
 use Rattle.calls.proofs.RunLaws.{ran_fixed}
 use Rattle.worked.specs.Shows.{Shown, done, filled, answer_of, Written, Shows, Show, Make}
 use Rattle.worked.proofs.Evaluation.{then, Once, same_list, run, fit}
@@ -41,12 +41,6 @@ all_at p zero k e l = absurd (omega arith)
 all_at p (suc n) k e l = let q = and_parts (all? p n) (p n) e in elim (cases_eq k n) [
   | inl s ↦ subst (λ x. p x ≡ true) (sym s) q.1
   | inr ne ↦ all_at p n k q.0 (omega arith)
-]
-
-small_in : (s n r : ℕ) → s < 2 ^ n → In s r → r < n
-small_in s n r l h = elim (cases_lt r n) [
-  | inl lt ↦ lt
-  | inr ge ↦ absurd (let p : 2 ^ n ≤ 2 ^ r = pow_mono ge in let z : s / 2 ^ r ≡ 0 = div-eq_of_lt (omega arith) in omega arith)
 ]
 
 pub opens_sound : (lengths : List ℕ) (e m : BookMeaning) → Agree e m → opens? lengths e ≡ true → Opens (sheet lengths m)
@@ -68,23 +62,12 @@ opens_sound lengths e m agree t =
     (subst (λ (x : List ℕ). i < length x) cs li))))
 
 -- ---- what a Fit shows
-values_same : (f : Values) (n : ℕ) (c : Option ℕ) → f.lines ≡ n → f.core ≡ c → f ≡ record { lines = n; core = c }
-values_same f n c a b = same a b
-  where
-    same : {l l' : ℕ} {k k' : Option ℕ} → l ≡ l' → k ≡ k' → ◌≡◌ {A = Values} (record { lines = l; core = k }) (record { lines = l'; core = k' })
-    same p q = cc
-
 alone_powers : (f g : List ℕ) → Alone (map (λ v. 2 ^ v) f) g → g ≡ f
 alone_powers f g a =
     let e : length (map (λ v. 2 ^ v) f) ≡ length f = length-map f (λ v. 2 ^ v) in
     ext_get_or 0 g f (a.there.long ∙ e) (λ c l.
     let h : c < length (map (λ v. 2 ^ v) f) = omega (arith, a.there.long) in
-    has_pow (get_or f c 0) (get_or g c 0) (subst (λ x. In x (get_or g c 0)) (get_or-map f c (omega arith)) (a.there.each c h).1))
-  where
-    get_or-map : (f : List ℕ) (c : ℕ) → c < length f → get_or (map (λ v. 2 ^ v) f) c 0 ≡ 2 ^ get_or f c 0
-    get_or-map [] c l = absurd (omega arith)
-    get_or-map (v ∷ f) zero l = refl
-    get_or-map (v ∷ f) (suc c) l = get_or-map f c (omega arith)
+    has_pow (get_or f c 0) (get_or g c 0) (subst (λ x. In x (get_or g c 0)) (get_or-map (λ v. 2 ^ v) f c 0 0 (omega arith)) (a.there.each c h).1))
 
 -- a Fit's values are those of what it shows, which is written
 pub record FitShows (cells : ℕ) (a : Step) (f : Values) (s : Shown) : Type 0 where
@@ -97,11 +80,11 @@ shows_fit cells lines (left sets) a f n log comes =
     let v = singles sets in
     cond_both (same_list sets (map (λ v. 2 ^ v) v)) (Some (filled lines v)) None (All (FitShows cells a f))
     (λ y. record {
-      values = ap Fitted (values_same f (length lines) None n comes.0);
+      values = ap Fitted (values_same f (record { lines = length lines; core = None }) n comes.0);
       written = (log, alone_powers v (take cells (vec_items a.buffers.filling)) (subst (λ x. Alone x (take cells (vec_items a.buffers.filling))) (same_true sets (map (λ v. 2 ^ v) v) y) comes.1));
     })
     (λ z. tt)
-shows_fit cells lines (core c) a f n log comes = record { values = ap Fitted (values_same f (length lines) (Some c) n comes); written = log }
+shows_fit cells lines (core c) a f n log comes = record { values = ap Fitted (values_same f (record { lines = length lines; core = Some c }) n comes); written = log }
 
 module _ {C : Type 0} (k : Machine C) (e m : BookMeaning) (agree : Agree e m) (lengths : List ℕ) (fuel : ℕ) where
   abbrev F : List Did → Lasting C → Step → Step → Values → Lasting C → Type 0
@@ -119,7 +102,7 @@ module _ {C : Type 0} (k : Machine C) (e m : BookMeaning) (agree : Agree e m) (l
       go None p = tt
       go (Some g) p = (
         record {
-          ready = record { few = ready.few; suits = ready.suits; known = λ r h. omega (arith, agree.count, small_in a e.count r p.2 (subst (λ z. In z r) p.1 h)); full = ready.full };
+          ready = record { few = ready.few; suits = ready.suits; known = λ r h. omega (arith, agree.count, in_below a e.count r p.2 (subst (λ z. In z r) p.1 h)); full = ready.full };
           run = p.0;
         },
         p.1,
@@ -145,9 +128,6 @@ module _ {C : Type 0} (k : Machine C) (e m : BookMeaning) (agree : Agree e m) (l
       let comes : Comes d.out f (take (length lengths) (vec_items a.buffers.filling)) =
       subst (λ i. Comes d.out f (take i (vec_items a.buffers.filling))) wide (subst (λ o. Comes o f (take (length start) (vec_items a.buffers.filling))) same.1 p.comes) in
       then_all (FitShows (length lengths) a f) (FitDone a f y) (show_fit d.lines d.out) (doing d.state) (shows_fit (length lengths) d.lines d.out a f n log comes) (λ s w. (w, same.2)))
-
-  did_same : {c c' : Call} {a a' : Answer} → c ≡ c' → a ≡ a' → ◌≡◌ {A = Did} (record { call = c; answer = a }) (record { call = c'; answer = a' })
-  did_same p q = cc
 
   -- what a call shows and leaves, after the calls h
   pub record Does (a : Step) (c : Call) (y : Lasting C) (d : Doing C) : Type 0 where

@@ -1,7 +1,5 @@
 //! The calls of the worked sheets, made on sessions over what their files hold.
 ghost use Rattle.std.specs.Prelude.{◌≡◌, ℕ, List, IfOk};
-ghost use Rattle.calls.specs.Sheet.{Enough as LongEnough};
-ghost use Rattle.calls.specs.Plays.{sizes};
 ghost use Rattle.sheets.specs.Sheet.{file_of};
 ghost use Rattle.sheets.specs.Stored.{held, Enough};
 ghost use Rattle.worked.specs.declared.example.Example.{Example as AnExample};
@@ -10,34 +8,14 @@ ghost use Rattle.worked.specs.Examples.{sheet_of, calls_of, shown_of};
 
 use crate::example::Example;
 use crate::usual::play_usual;
-use calls::answer::Answer;
+use answers::fit::step;
 use calls::call::Call;
-use calls::step::{Buffers, Step};
+use calls::step::Step;
 use load::load::load;
-use runs::line::{Line, Verdict};
 use sheet_books::{books, lengths};
 use sheets::stores::Stores;
 use std::alloc::{AllocError, Global};
 use storage::Storage;
-
-/// A step that makes a call, with buffers that are long enough for a Fit.
-fn step(heap: Global, call: Call) -> Result<Step, AllocError>
-    ensures { IfOk result (λ s. (s.call ≡ call) × LongEnough (sizes s.buffers)) }
-{
-    let line = Line {
-        listed: 0,
-        used: 0,
-        verdict: Verdict::Met,
-    };
-    let work = vec![in heap; 0u64; 4096]?;
-    let log = vec![in heap; line; 450]?;
-    let filling = vec![in heap; 0u8; 64]?;
-    Ok(Step {
-        call,
-        buffers: Buffers { work, log, filling },
-        answer: Answer::Done,
-    })
-}
 
 /// Steps that make some calls.
 fn steps(heap: Global, calls: &[Call]) -> Result<Vec<Step>, AllocError>

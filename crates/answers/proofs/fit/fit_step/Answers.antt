@@ -1,16 +1,10 @@
-use Rattle.std.proofs.Common.{refl, rules}
-use Rattle.std.proofs.lemmas.Result.{IfOk-from_err}
+use Rattle.std.proofs.Common.{sym, refl, subst, arith}
+use Rattle.std.proofs.lemmas.Result.{IfOk-weaker}
+use Rattle.calls.specs.Sheet.{Enough}
 use Rattle.answers.proofs.fit.fit_step.Goals as goal
 
-pub returns-in_err-log : goal.returns-in_err-log
-returns-in_err-log c =
-    let e = c.from_residual-in_err-log.ensures.0 in
-    record { one = IfOk-from_err c.from_residual-in_err-log.result _ e; sizes = IfOk-from_err c.from_residual-in_err-log.result _ e }
-
-pub returns-in_err-filling : goal.returns-in_err-filling
-returns-in_err-filling c =
-    let e = c.from_residual-in_err-filling.ensures.0 in
-    record { one = IfOk-from_err c.from_residual-in_err-filling.result _ e; sizes = IfOk-from_err c.from_residual-in_err-filling.result _ e }
-
 pub returns-clause-one : goal.returns-clause-one
-returns-clause-one c = record { step = _; alone = refl; call = refl; enough = record { work = search rules; log = search rules; filling = search rules } }
+returns-clause-one c =
+    IfOk-weaker c.step.result _ _
+    (λ s e. record { step = s; alone = refl; call = e.0; enough = subst Enough (sym e.1) (record { work = omega arith; log = omega arith; filling = omega arith }) })
+    c.step.ensures

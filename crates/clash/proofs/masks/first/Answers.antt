@@ -2,7 +2,9 @@ use Rattle.std.proofs.Common.{ℕ, ◌^◌, ◌<◌, ◌≤◌, length, sym, ap,
 use lib.Bits.{bit_or}
 use Rattle.bits.specs.Sets.{In, below}
 use Rattle.std.proofs.lemmas.Bool.Decides.{not_from_Decides}
-use Rattle.cores.proofs.SetFacts.{below_more, first_end, length_zero, first_begin, first_step_in, first_step_past, first_step_off}
+use Rattle.bits.proofs.SetOf.{first_begin, first_end, first_step_in, first_step_off, first_step_past}
+use Rattle.bits.proofs.Members.{count_more}
+use Rattle.bits.proofs.Size.{below_zero}
 use Rattle.clash.proofs.masks.first.Goals as goal
 use Rattle.clash.proofs.masks.first.Goals.{then-has, then-seen-many, else-seen-many, else-has}
 
@@ -12,7 +14,7 @@ loop-rule-preserved c =
     let s = c.args.set in
     let n = c.args.many in
     let i = c.loop-rule.invariant in
-    let b = below_more r s c.loop-rule.seen i.0 in
+    let b = count_more r s c.loop-rule.seen i.0 in
     elim c.if-has.branch [
       | then-has w ↦
           let h : In s r = (c.has.ensures.0 w.if-has.true).1 in (
@@ -30,7 +32,7 @@ loop-rule-preserved c =
     ]
 
 pub loop-rule-init : goal.loop-rule-init
-loop-rule-init c = (sym (length_zero c.args.set), omega arith, first_begin c.args.set c.args.many)
+loop-rule-init c = (sym (below_zero c.args.set), omega arith, first_begin c.args.set c.args.many)
 
 pub returns : goal.returns
 returns c = c.loop-rule.invariant.2 ∙ first_end c.loop-rule.rule c.args.set c.args.many (omega arith)

@@ -2,8 +2,9 @@ use Rattle.std.proofs.Common.{◌≡◌, ℕ, ◌-◌, ◌^◌, ◌<◌, ◌≤�
 use lib.Bits.{bit_or}
 use Rattle.std.proofs.lemmas.Option.{get_or_from_slice_get}
 use Rattle.bits.specs.Sets.{members, size}
+use Rattle.bits.proofs.SetOf.{members_subset}
+use Rattle.bits.proofs.Members.{member_has}
 use Rattle.cores.specs.Fit.{with_first, with_rule, Halves}
-use Rattle.cores.proofs.SetFacts.{member_has, members_subset}
 use Rattle.cores.proofs.CoreLaw.{Ahead, at_first, some_left, first_among, halved}
 use Rattle.clash.specs.Seeking.{lasting_of}
 use Rattle.clash.proofs.LogFacts.{wrote_none, wrote_then}

@@ -1,7 +1,7 @@
 use Rattle.std.proofs.Common.{◌≡◌, ◌^◌, ◌<◌, [], ◌∷◌, ◌++◌, sym, ap, subst, arith}
 use Rattle.bits.specs.Sets.{size}
+use Rattle.bits.proofs.Same.{size_lt, subset_small}
 use Rattle.runs.specs.declared.line.Verdict.TheVariants.{Unmet}
-use Rattle.cores.proofs.SetFacts.{size_lt, subset_small}
 use Rattle.cores.proofs.CoreLaw.{says_clash}
 use Rattle.clash.specs.Seeking.{lasting_of}
 use Rattle.clash.proofs.LogFacts.{wrote_none}
