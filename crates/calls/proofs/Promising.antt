@@ -1,5 +1,6 @@
 -- Calls played by runs keep the promise of fillings and cores. Assumes nothing.
 use Rattle.std.proofs.Common.{◌≡◌, ℕ, ◌+◌, ◌-◌, ◌*◌, ◌^◌, ◌<◌, ◌≤◌, eqb, ◌≢◌, List, [], ◌∷◌, length, get_or, take, Some, None, vec_items, Option, sym, refl, ap, ◌∙◌, subst, inl, inr, arith}
+use Rattle.std.specs.List.{AllByRecursion}
 use Rattle.std.proofs.lemmas.List.{length-take-le, ext_get_or}
 use Rattle.std.proofs.lemmas.Bool.{cond-true, cond-false, eq-eqb, ne_eqb, cases_eq}
 use Rattle.bits.specs.Sets.{size}
@@ -9,7 +10,7 @@ use Rattle.network.specs.Fillings.{Inside, MeetsAll, Meetable}
 use Rattle.choosers.specs.Choice.{Machine, Naming}
 use Rattle.runs.specs.declared.line.Line.{Line}
 use Rattle.runs.specs.Law.{Right, Fills}
-use Rattle.cores.specs.Core.{Core, Each, Outcome, Outcome.left, Outcome.core}
+use Rattle.cores.specs.Core.{Core, Outcome, Outcome.left, Outcome.core}
 use Rattle.cores.specs.Fit.{Fit, Fit.fills}
 use Rattle.cores.proofs.CoreLaw.{fit_law}
 use Rattle.cores.proofs.SetFacts.{subset_small}
@@ -19,7 +20,7 @@ use Rattle.calls.specs.declared.call.Call.{Call}
 use Rattle.calls.specs.declared.step.Step.{Step}
 use Rattle.calls.specs.Answers.{Said, said}
 use Rattle.calls.specs.Sheet.{Sheet, Sizes, Opens, Judged, Judged.shut, Judged.pins, Judged.pins_no_cell, Judged.pins_no_place, Judged.frees, Judged.frees_no_cell, Judged.switches, Judged.switches_no_rule, Judged.fits, Judged.fits_short}
-use Rattle.calls.specs.History.{Did, accepted, pinned, standing, Valid, on_after, Filling, Fillable}
+use Rattle.calls.specs.History.{Did, accepted, pinned, standing, Valid, on_after, Fillable}
 use Rattle.calls.specs.Plays.{sizes, did, Makes, Makes.refused, Makes.changed, Makes.fitted, Plays, Plays.none, Plays.more}
 use Rattle.calls.specs.Promise.{lines_of, filling_of, Ended, Ended.filled, Ended.clashed, FillingOrCore, FillingsAndCores}
 use Rattle.calls.specs.Runs.{Ran, start_after, Alone, Comes, StepRuns, StepDone, PlaysByRuns}
@@ -31,7 +32,7 @@ module _ (F G : ℕ → Type 0) (to : (a : ℕ) → F a → G a) (from : (a : �
   right_map : (l : Line) → Right F l → Right G l
   right_map l r = record { fits = λ e. to l.listed (r.fits e); only = λ g. r.only (from l.listed g); unused = r.unused; among = r.among; clash = λ e g. r.clash e (from l.used g) }
 
-  each_map : (ls : List Line) → Each (Right F) ls → Each (Right G) ls
+  each_map : (ls : List Line) → AllByRecursion (Right F) ls → AllByRecursion (Right G) ls
   each_map [] e = tt
   each_map (l ∷ ls) e = (right_map l e.0, each_map ls e.1)
 

@@ -1,6 +1,6 @@
 -- Which filling, core and lines a Fit gives: those of its runs. Assumes nothing.
-use Rattle.std.specs.Prelude.{◌≡◌, ℕ, ◌-◌, ◌^◌, ◌≤◌, List, [], ◌∷◌, map, length, take, replicate, Some, None, vec_items, vec_len, Option, slice_index}
-use Rattle.std.specs.List.{range_with_len}
+use Rattle.std.specs.Prelude.{◌≡◌, ℕ, ◌-◌, ◌^◌, ◌≤◌, List, [], map, length, take, replicate, Some, None, vec_items, vec_len, Option, slice_index}
+use Rattle.std.specs.List.{range_with_len, AllZip}
 use Rattle.network.specs.Book.{BookMeaning, Remains}
 use Rattle.network.specs.Fillings.{Inside}
 use Rattle.choosers.specs.Choice.{Machine}
@@ -23,11 +23,12 @@ pub record Ran {C : Type 0} (k : Machine C) (m : BookMeaning) (start : List ℕ)
   pub ready : Ready m start l.listed
   pub run : Run k m start l.listed s.chooser s.weights l t.chooser t.weights sets
 
--- what a cell starts with: its whole list, or its pin alone
+-- what a cell starts with, where its list has so many places: its whole list, or its pin alone
 abbrev pub start_of : ℕ → Option ℕ → ℕ
 start_of places None = 2 ^ places - 1
 start_of places (Some v) = 2 ^ v
 
+-- what each cell starts with
 abbrev pub starts : List ℕ → (ℕ → Option ℕ) → List ℕ
 starts lengths pins = map (λ c. start_of (slice_index lengths c) (pins c)) (range_with_len 0 (length lengths))
 
@@ -52,11 +53,11 @@ pub record FitRuns {C : Type 0} (k : Machine C) (m : BookMeaning) (start : List 
   pub comes : Comes out f (take (length start) filling)
   pub counted : f.lines ≤ length log
 
--- the same for a step, after the calls h
+-- the same for the buffers of a step, after the calls h
 abbrev pub StepRuns : {C : Type 0} → Machine C → Sheet → List Did → Lasting C → Step → Values → Lasting C → Type 0
 StepRuns k s h x a f y = FitRuns k s.book (start_after s h) (on_after s h) x (vec_items a.buffers.log) (vec_items a.buffers.filling) f y
 
--- with what it keeps
+-- a Fit goes by its runs, keeps what it is to keep, and leaves the buffers as long as they were
 abbrev pub StepDone : {C : Type 0} → Machine C → Sheet → List Did → Lasting C → Step → Step → Values → Lasting C → Type 0
 StepDone k s h x b a f y = StepRuns k s h x a f y × StepKeeps s b a f × (sizes a.buffers ≡ sizes b.buffers)
 
@@ -82,13 +83,8 @@ pub record Agree (s : Sheet) (a a' : Step) : Type 0 where
   pub lines : (f : Values) → said a.answer ≡ returned f → lines_of a f ≡ lines_of a' f
   pub filling : (f : Values) → said a.answer ≡ returned f → f.core ≡ None → filling_of s a ≡ filling_of s a'
 
--- a relation of the steps of two lists, place by place
-pub data Pairwise (P : Step → Step → Type 0) : List Step → List Step → Type 0 where
-  none : Pairwise P [] []
-  more : {x y : Step} {xs ys : List Step} → P x y → Pairwise P xs ys → Pairwise P (x ∷ xs) (y ∷ ys)
-
 -- what was played follows from the sheet, the chooser at the start and the calls: whatever else the buffers hold at entry,
 -- every play of these calls by runs has these answers, lines and fillings, and leaves this
 abbrev pub Follows : {C : Type 0} → Machine C → Sheet → Lasting C → List Step → List Step → Lasting C → Type 0
-Follows {C} k s x before after y = (before' after' : List Step) (y' : Lasting C) → Pairwise Alike before before' → PlaysByRuns k s [] x before' after' y'
-    → Pairwise (Agree s) after after' × (y ≡ y')
+Follows {C} k s x before after y = (before' after' : List Step) (y' : Lasting C) → AllZip Alike before before' → PlaysByRuns k s [] x before' after' y'
+    → AllZip (Agree s) after after' × (y ≡ y')

@@ -1,5 +1,6 @@
 -- What the search for a core comes to, over any relation of runs whose lines are right. Assumes nothing.
 use Rattle.std.proofs.Common.{◌≡◌, ℕ, zero, suc, ◌+◌, ◌-◌, ◌*◌, ◌/◌, ◌^◌, ◌<◌, ◌≤◌, ◌⊎◌, List, [], ◌∷◌, ◌++◌, length, get_or, take, sym, refl, ap, ◌∙◌, subst, inl, inr, ⊎_elim, add-mul, one-mul, pow-suc, arith, length-append}
+use Rattle.std.specs.List.{AllByRecursion}
 use lib.Bits.{bit_or}
 use Rattle.std.proofs.lemmas.Bool.{cases_eq}
 use Rattle.std.proofs.lemmas.List.{take_all}
@@ -9,7 +10,7 @@ use Rattle.runs.specs.declared.line.Line.{Line}
 use Rattle.runs.specs.declared.line.Verdict.{Verdict}
 use Rattle.runs.specs.declared.line.Verdict.TheVariants.{Met, Unmet}
 use Rattle.runs.specs.Law.{Right}
-use Rattle.cores.specs.Core.{Core, Short, Each, Outcome, Promise}
+use Rattle.cores.specs.Core.{Core, Short, Outcome, Promise}
 use Rattle.cores.specs.Fit.{with_first, with_rule, Lawful, Gives, Shrinks, Shrinks.all, Shrinks.fewer, Halves, Halves.met, Halves.down, Halves.up, Rounds, Rounds.alone, Rounds.round, Fit, Fit.fills, Fit.clashes}
 use Rattle.cores.proofs.SetFacts.{or_has, has_left, has_right, or_subset, or_mono, has_first, has_set, set_empty, first_mono, first_more, member_has, members_subset, subset_members, size_le, size_lt, size_add, size_zero, subset_small}
 
@@ -42,7 +43,7 @@ says_clash {Fits} {l} a r e h = go l.verdict refl
     go Met i = absurd (h (subst Fits e (r.fits i)))
     go Unmet i = i
 
-each_concat : (P : Line → Type 0) (ls ms : List Line) → Each P ls → Each P ms → Each P (ls ++ ms)
+each_concat : (P : Line → Type 0) (ls ms : List Line) → AllByRecursion P ls → AllByRecursion P ms → AllByRecursion P (ls ++ ms)
 each_concat P [] ms a b = b
 each_concat P (l ∷ ls) ms a b = (a.0, each_concat P ls ms a.1 b)
 
@@ -238,16 +239,16 @@ module _ {S O : Type 0} (R : S → Line → O → S → Type 0) (Fits : ℕ → 
       )
 
   -- ---- each line is right
-  shrinks_each : {c : ℕ} {s t : S} {l : Line} {ls : List Line} → Shrinks R l s ls c t → Each (Right Fits) ls
+  shrinks_each : {c : ℕ} {s t : S} {l : Line} {ls : List Line} → Shrinks R l s ls c t → AllByRecursion (Right Fits) ls
   shrinks_each (all e) = tt
   shrinks_each (fewer ne g p) = (right g.run, shrinks_each p)
 
-  halves_each : {found : ℕ} {cs : List ℕ} {lo hi j : ℕ} {s t : S} {ls : List Line} → Halves R found cs lo hi s ls j t → Each (Right Fits) ls
+  halves_each : {found : ℕ} {cs : List ℕ} {lo hi j : ℕ} {s t : S} {ls : List Line} → Halves R found cs lo hi s ls j t → AllByRecursion (Right Fits) ls
   halves_each (met e) = tt
   halves_each (down lt g p) = (right g.run, halves_each p)
   halves_each (up lt g p) = (right g.run, halves_each p)
 
-  rounds_each : {cs : List ℕ} {found n c : ℕ} {s t : S} {ls : List Line} → Rounds R cs found n s ls c t → Each (Right Fits) ls
+  rounds_each : {cs : List ℕ} {found n c : ℕ} {s t : S} {ls : List Line} → Rounds R cs found n s ls c t → AllByRecursion (Right Fits) ls
   rounds_each (alone g) = (right g.run, tt)
   rounds_each (round {ls = ls} {ms = ms} g h p) = (right g.run, each_concat (Right Fits) ls ms (halves_each h) (rounds_each p))
 

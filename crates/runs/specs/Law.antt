@@ -18,15 +18,15 @@ pub record Suits (m : BookMeaning) (n : ℕ) : Type 0 where
 abbrev pub Full : List ℕ → Type 0
 Full sets = (c : ℕ) → c < length sets → Empty sets c → ⊥
 
--- what remains in the one remains in the other
+-- every place that remains in the small sets remains in the large ones
 abbrev pub Within : List ℕ → List ℕ → Type 0
 Within small large = (c v : ℕ) → Remains small c v → Remains large c v
 
--- every place has support from every listed rule
+-- every place that remains at a cell of a listed rule has support from that rule
 abbrev pub Closed : BookMeaning → ℕ → List ℕ → Type 0
 Closed m listed sets = (r i v : ℕ) → In listed r → i < length (m.rule r).cells → Remains sets (cell_at m r i) v → Supported (m.rule r) i v sets
 
--- rules are only marked, and only listed ones
+-- from `used` on to `used'`, rules are only marked, and only listed ones
 pub record Marks (listed used used' : ℕ) : Type 0 where
   pub more : Subset used used'
   pub among : (r : ℕ) → In used' r → In used r ⊎ In listed r

@@ -1,12 +1,11 @@
 -- Parts of a store, and the cells of a stored rule. Assumes nothing.
 use Rattle.std.proofs.Common.{◌≡◌, ℕ, zero, suc, ◌-◌, ◌<◌, ◌≤◌, min, List, [], ◌∷◌, map, length, get_or, take, replicate, sym, refl, ap, ◌∙◌, ⊎_elim, arith, length-append}
 use lib.ListN.{length-replicate}
-use Rattle.std.specs.List.{range_with_len}
+use Rattle.std.specs.List.{range_with_len, AllByRecursion}
 use Rattle.std.proofs.lemmas.List.{get_or_append_left, take_at, take_all}
 use Rattle.std.proofs.lemmas.Bool.{cases_lt}
 use Rattle.std.proofs.lemmas.List.FromFn.{fill_by_all}
 use Rattle.network.specs.Cells.{GoodCells}
-use Rattle.sheets.specs.Sheet.{Each}
 use Rattle.sheets.specs.Stored.{filled}
 
 module _ {X : Type 0} (blank : X) (n : ℕ) (xs : List X) where
@@ -23,12 +22,12 @@ take_cut n m xs e = ⊎_elim
     (λ (l : length xs ≤ n). take_all m xs (omega arith) ∙ sym (take_all n xs l))
     (cases_lt n (length xs))
 
-pub each_at : {X : Type 0} (P : X → Type 0) (xs : List X) (d : X) → Each P xs → (i : ℕ) → i < length xs → P (get_or xs i d)
+pub each_at : {X : Type 0} (P : X → Type 0) (xs : List X) (d : X) → AllByRecursion P xs → (i : ℕ) → i < length xs → P (get_or xs i d)
 each_at P [] d h i l = absurd (omega arith)
 each_at P (x ∷ xs) d h zero l = h.0
 each_at P (x ∷ xs) d h (suc i) l = each_at P xs d h.1 i (omega arith)
 
-pub each_map : {X : Type 0} (P Q : X → Type 0) (xs : List X) → ((x : X) → P x → Q x) → Each P xs → Each Q xs
+pub each_map : {X : Type 0} (P Q : X → Type 0) (xs : List X) → ((x : X) → P x → Q x) → AllByRecursion P xs → AllByRecursion Q xs
 each_map P Q [] f h = tt
 each_map P Q (x ∷ xs) f h = (f x h.0, each_map P Q xs f h.1)
 

@@ -1,21 +1,21 @@
 -- The cells that a formula names: known to the sheet, and different. Assumes nothing.
 use Rattle.std.proofs.Common.{◌≡◌, ℕ, zero, suc, ◌<◌, ◌≤◌, true, false, cond, eqb, List, [], ◌∷◌, ◌++◌, length, get_or, sym, ◌∙◌, ⊎_elim, arith}
+use Rattle.std.specs.List.{AllByRecursion}
 use Rattle.std.proofs.lemmas.List.{get_or_append_left, get_or_push, length_push}
 use Rattle.std.proofs.lemmas.Bool.{cases_Bool, cases_lt, cond_both, cond-true, cond-false, both_ways, eq-eqb, true≢false}
 use Rattle.formulas.specs.declared.node.Side.{Side}
 use Rattle.formulas.specs.declared.node.Side.TheVariants.{Number, Cell}
 use Rattle.formulas.specs.Tree.{Condition, compares, negates, all, any, Conditions, one, more, KnownSide, Known, KnownAll, side_cells, mentions, list_mentions, among, noted, cells_of}
-use Rattle.sheets.specs.Sheet.{Each}
 use Rattle.sheet_books.proofs.Parts.{each_at}
 
 -- ---- known
-each_append : {X : Type 0} (P : X → Type 0) (xs ys : List X) → Each P xs → Each P ys → Each P (xs ++ ys)
+each_append : {X : Type 0} (P : X → Type 0) (xs ys : List X) → AllByRecursion P xs → AllByRecursion P ys → AllByRecursion P (xs ++ ys)
 each_append P [] ys h k = k
 each_append P (x ∷ xs) ys h k = (h.0, each_append P xs ys h.1 k)
 
 module _ (n : ℕ) where
   abbrev Below : List ℕ → Type 0
-  Below cs = Each (λ c. c < n) cs
+  Below cs = AllByRecursion (λ c. c < n) cs
 
   side_below : (a : Side) → KnownSide n a → Below (side_cells a)
   side_below (Number z) k = tt
@@ -41,7 +41,7 @@ module _ (n : ℕ) where
   pub cells_known : (c : Condition) → Known n c → (k : ℕ) → k < length (cells_of c) → get_or (cells_of c) k 0 < n
   cells_known c h k l = each_at (λ c. c < n) (cells_of c) 0 (noted_below [] (mentions c) tt (mentions_below c h)) k l
 
-  pub cells_below : (c : Condition) → Known n c → Each (λ x. x < n) (cells_of c)
+  pub cells_below : (c : Condition) → Known n c → AllByRecursion (λ x. x < n) (cells_of c)
   cells_below c h = noted_below [] (mentions c) tt (mentions_below c h)
 
 -- ---- different

@@ -1,5 +1,6 @@
 -- The rules by formulas of a sheet, as they lie in the stores. Assumes nothing.
 use Rattle.std.proofs.Common.{◌≡◌, ℕ, zero, suc, ◌+◌, ◌-◌, ◌<◌, ◌≤◌, Bool, true, false, ◌&&◌, ltb, List, [], ◌∷◌, ◌++◌, map, length, get_or, replicate, ℤ, pos, sym, refl, ap, ◌∙◌, subst, append_assoc, arith, length-append}
+use Rattle.std.specs.List.{AllByRecursion}
 use Rattle.std.proofs.lemmas.Bool.{and_from, lt-ltb}
 use Rattle.formulas.specs.declared.node.Node.{Node}
 use Rattle.formulas.specs.declared.node.Node.TheVariants.{And, Or}
@@ -14,7 +15,7 @@ use Rattle.judge.proofs.Trees.{below, stands_true}
 use Rattle.formula_book.specs.Trees.{child, node_grounded, grounded}
 use Rattle.formula_book.specs.Formulas.{no_formula, Lists, assigned, unset, listed, rule_of, Fit, WellFormed}
 use Rattle.formula_book.specs.Support.{lists_of}
-use Rattle.sheets.specs.Sheet.{GoodFormula, Each}
+use Rattle.sheets.specs.Sheet.{GoodFormula}
 use Rattle.sheets.specs.Stored.{formula_of, formulas_of, nodes_of}
 use Rattle.sheets.specs.Meaning.{numbers_at, formula_rule, no_condition, listed as within}
 use Rattle.sheets.proofs.Storing.{length_formulas}
@@ -75,7 +76,7 @@ and_same : (a b x y : Bool) → a ≡ b → (b ≡ true → x ≡ y) → (a && x
 and_same a true x y e same = ap (λ t. t && x) e ∙ same refl
 and_same a false x y e same = ap (λ t. t && x) e
 
-module _ (lists : List (List ℤ)) (short : Short lists) (few : length lists ≤ 64) (cs : List Condition) (good : Each (GoodFormula lists) cs) (q : List Node) (z : List ℤ) where
+module _ (lists : List (List ℤ)) (short : Short lists) (few : length lists ≤ 64) (cs : List Condition) (good : AllByRecursion (GoodFormula lists) cs) (q : List Node) (z : List ℤ) where
   abbrev nodes : List Node
   nodes = nodes_of 0 cs ++ q
 

@@ -1,17 +1,16 @@
 -- The lists of a sheet, as they lie in the stores: 64 places a cell. Assumes nothing.
 use Rattle.std.proofs.Common.{◌≡◌, ℕ, zero, suc, ◌+◌, ◌-◌, ◌*◌, ◌<◌, ◌≤◌, true, ◌&&◌, ltb, List, [], ◌∷◌, ◌++◌, map, length, get_or, set, replicate, ℤ, pos, refl, ap, ◌∙◌, append_assoc, arith}
-use Rattle.std.specs.List.{flat_map}
+use Rattle.std.specs.List.{flat_map, AllByRecursion}
 use Rattle.std.proofs.lemmas.List.{get_or_append_left, get_or-append_right}
 use Rattle.std.proofs.lemmas.Bool.{and_parts, ltb-true, false≢true}
 use Rattle.formula_book.specs.Formulas.{assigned, listed}
 use Rattle.formula_book.specs.Support.{lists_of}
-use Rattle.sheets.specs.Sheet.{Each}
 use Rattle.sheets.specs.Stored.{filled}
 use Rattle.sheets.specs.Meaning.{numbers_at, number_at as number_of, listed as within}
 use Rattle.sheet_books.proofs.Parts.{filled_length}
 
 abbrev pub Short : List (List ℤ) → Type 0
-Short lists = Each (λ zs. length zs ≤ 64) lists
+Short lists = AllByRecursion (λ zs. length zs ≤ 64) lists
 
 abbrev pub spread : List (List ℤ) → List ℤ
 spread lists = flat_map (filled (pos 0) 64) lists
@@ -47,7 +46,7 @@ module _ (lists : List (List ℤ)) (q : List ℤ) (short : Short lists) where
       ap (λ n. ltb v n && listed (lists_of (map length lists) (spread lists ++ q)) cs vs) (length_there lists c)
       ∙ ap (λ b. ltb v (length (get_or lists c [])) && b) (listed_same cs vs)
 
-  pub numbers_same : (f : List ℤ) (cs row : List ℕ) → Each (λ c. c < length lists) cs → within lists cs row ≡ true
+  pub numbers_same : (f : List ℤ) (cs row : List ℕ) → AllByRecursion (λ c. c < length lists) cs → within lists cs row ≡ true
       → assigned (lists_of (map length lists) (spread lists ++ q)) f cs row ≡ numbers_at lists f cs row
   numbers_same f [] row k e = refl
   numbers_same f (c ∷ cs) [] k e = absurd (false≢true e)

@@ -1,6 +1,6 @@
 -- The rules by rows of a sheet, as they lie in the stores. Assumes nothing.
 use Rattle.std.proofs.Common.{◌≡◌, ℕ, zero, suc, ◌+◌, ◌*◌, ◌<◌, ◌≤◌, true, not, ◌&&◌, ◌||◌, eqb, List, [], ◌∷◌, ◌++◌, length, get_or, ℤ, Decides, sym, refl, ap, ◌∙◌, subst, ⊎_elim, append_assoc, suc-mul, zero-mul, arith, length-append}
-use Rattle.std.specs.List.{flat_map}
+use Rattle.std.specs.List.{flat_map, AllByRecursion}
 use Rattle.std.specs.Str.{bytes_eq}
 use Rattle.std.proofs.lemmas.List.FromFn.{fill_by_all}
 use Rattle.std.proofs.lemmas.Slice.Eq.{bytes_eq-Decides}
@@ -12,7 +12,7 @@ use Rattle.rows.specs.declared.rule.Kind.TheVariants.{Permitted, Forbidden}
 use Rattle.rows.specs.declared.rule.RowsRule.{RowsRule}
 use Rattle.rows.specs.Rows.{no_rows, Fit, WellFormed, place_at, row_at, stores, permits_of, rule_of}
 use Rattle.rows.proofs.Rows.{stores_decides}
-use Rattle.sheets.specs.Sheet.{RowsField, GoodRows, Each}
+use Rattle.sheets.specs.Sheet.{RowsField, GoodRows}
 use Rattle.sheets.specs.Stored.{places_of, stored_rule_of, rules_of}
 use Rattle.sheets.specs.Meaning.{one_of, permits_row, rows_rule, no_rows as no_field}
 use Rattle.sheets.proofs.Storing.{length_rules}
@@ -110,7 +110,7 @@ rule_there (x ∷ xs) n p q bytes l e (suc r) h =
     (e ∙ ap (λ y. p ++ y) (append_assoc (places_of x) (flat_map places_of xs) q) ∙ sym (append_assoc p (places_of x) (flat_map places_of xs ++ q))) r (omega arith) in
     record { start = i.start; before = i.before; after = i.after; is = i.is; long = i.long; said = i.said }
 
-module _ (lists : List (List ℤ)) (xs : List RowsField) (q : List ℕ) (few : length lists ≤ 64) (good : Each (GoodRows lists) xs) where
+module _ (lists : List (List ℤ)) (xs : List RowsField) (q : List ℕ) (few : length lists ≤ 64) (good : AllByRecursion (GoodRows lists) xs) where
   abbrev bytes : List ℕ
   bytes = flat_map places_of xs ++ q
 

@@ -1,9 +1,9 @@
 -- A sheet read field by field. Assumes nothing.
 use Rattle.std.proofs.Common.{◌≡◌, ℕ, ◌+◌, ◌<◌, ◌≢◌, List, [], ◌∷◌, ◌++◌, map, length, ℤ, sym, refl, ap, ◌∙◌, ⊎_elim, append_assoc, append-nil, arith, length-append}
 use mathlib.Core.List.{map-append}
-use Rattle.std.specs.List.{flat_map}
+use Rattle.std.specs.List.{flat_map, AllByRecursion}
 use Rattle.formulas.specs.Tree.{Condition}
-use Rattle.sheets.specs.Sheet.{Sheet, RowsField, Field, field_bytes, cell_field, rows_field, formula_field, fields_of, bytes_of, GoodList, GoodRows, GoodFormula, Each, Good, with_list, with_rows, with_formula}
+use Rattle.sheets.specs.Sheet.{Sheet, RowsField, Field, field_bytes, cell_field, rows_field, formula_field, fields_of, bytes_of, GoodList, GoodRows, GoodFormula, Good, with_list, with_rows, with_formula}
 use Rattle.sheets.specs.Reading.{Fits, cell, rows, formula, Full}
 use Rattle.sheets.proofs.Fields.{joined_append}
 
@@ -13,11 +13,11 @@ pub data Adds (s : Sheet) : Field → Sheet → Type 0 where
   adds_rows : (x : RowsField) → s.formulas ≡ [] → length s.rows + length s.formulas < 64 → GoodRows s.lists x → Adds s (rows_field x) (with_rows s x)
   adds_formula : (c : Condition) → length s.rows + length s.formulas < 64 → GoodFormula s.lists c → Adds s (formula_field c) (with_formula s c)
 
-each_append : {X : Type 0} (P : X → Type 0) (xs : List X) (x : X) → Each P xs → P x → Each P (xs ++ (x ∷ []))
+each_append : {X : Type 0} (P : X → Type 0) (xs : List X) (x : X) → AllByRecursion P xs → P x → AllByRecursion P (xs ++ (x ∷ []))
 each_append P [] x h p = (p, tt)
 each_append P (y ∷ xs) x h p = (h.0, each_append P xs x h.1 p)
 
-each_none : {X : Type 0} (P : X → Type 0) (xs : List X) → xs ≡ [] → Each P xs
+each_none : {X : Type 0} (P : X → Type 0) (xs : List X) → xs ≡ [] → AllByRecursion P xs
 each_none P [] e = tt
 each_none P (x ∷ xs) e = let z : ◌≡◌ {A = ℕ} 0 1 = cc in absurd (omega arith)
 

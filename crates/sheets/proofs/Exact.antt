@@ -1,10 +1,10 @@
 -- A file is read as one sheet, or refused with one fault, and not both. Assumes nothing.
 use Rattle.std.proofs.Common.{◌≡◌, ℕ, ◌+◌, ◌≤◌, List, [], ◌∷◌, ◌++◌, map, length, ℤ, sym, refl, ap, ◌∙◌, subst, ⊎_elim, append_assoc, append-nil, arith, length-append}
-use Rattle.std.specs.List.{flat_map}
+use Rattle.std.specs.List.{flat_map, AllByRecursion}
 use Rattle.formulas.specs.Tree.{Condition}
 use Rattle.formulas.proofs.Firsts.{text_unique}
 use Rattle.sheets.specs.declared.fault.LoadFault.{LoadFault}
-use Rattle.sheets.specs.Sheet.{Sheet, RowsField, Field, field_bytes, cell_field, rows_field, formula_field, fields_of, bytes_of, GoodList, GoodRows, GoodFormula, Each, Good, empty, with_list, with_rows, with_formula}
+use Rattle.sheets.specs.Sheet.{Sheet, RowsField, Field, field_bytes, cell_field, rows_field, formula_field, fields_of, bytes_of, GoodList, GoodRows, GoodFormula, Good, empty, with_list, with_rows, with_formula}
 use Rattle.sheets.specs.Reading.{ReadAs, RefusedWith}
 use Rattle.sheets.proofs.Fields.{byte, fields_split}
 use Rattle.sheets.proofs.Adds.{Adds, adds_list, adds_rows, adds_formula, adds_not_end}
@@ -42,21 +42,21 @@ from_unique [] none none = refl
 from_unique (f ∷ fs) {u = u} (more a g) (more b h) = from_unique fs g (subst (λ x. From x fs u) (sym (adds_unique refl a b)) h)
 
 -- a good sheet is made so
-from_lists : (a b : List (List ℤ)) → length a + length b ≤ 64 → Each GoodList b → From (record { lists = a; rows = []; formulas = [] }) (map cell_field b) (record { lists = a ++ b; rows = []; formulas = [] })
+from_lists : (a b : List (List ℤ)) → length a + length b ≤ 64 → AllByRecursion GoodList b → From (record { lists = a; rows = []; formulas = [] }) (map cell_field b) (record { lists = a ++ b; rows = []; formulas = [] })
 from_lists a [] h g = subst (λ l. From (record { lists = a; rows = []; formulas = [] }) [] (record { lists = l; rows = []; formulas = [] })) (sym (append-nil a)) none
 from_lists a (z ∷ b) h g =
     more (adds_list z refl refl (omega arith) g.0)
     (subst (λ l. From (record { lists = a ++ (z ∷ []); rows = []; formulas = [] }) (map cell_field b) (record { lists = l; rows = []; formulas = [] })) (append_assoc a (z ∷ []) b)
     (from_lists (a ++ (z ∷ [])) b (omega (arith, length-append a (z ∷ []))) g.1))
 
-from_rows : (ls : List (List ℤ)) (a b : List RowsField) → length a + length b ≤ 64 → Each (GoodRows ls) b → From (record { lists = ls; rows = a; formulas = [] }) (map rows_field b) (record { lists = ls; rows = a ++ b; formulas = [] })
+from_rows : (ls : List (List ℤ)) (a b : List RowsField) → length a + length b ≤ 64 → AllByRecursion (GoodRows ls) b → From (record { lists = ls; rows = a; formulas = [] }) (map rows_field b) (record { lists = ls; rows = a ++ b; formulas = [] })
 from_rows ls a [] h g = subst (λ l. From (record { lists = ls; rows = a; formulas = [] }) [] (record { lists = ls; rows = l; formulas = [] })) (sym (append-nil a)) none
 from_rows ls a (x ∷ b) h g =
     more (adds_rows x refl (omega arith) g.0)
     (subst (λ l. From (record { lists = ls; rows = a ++ (x ∷ []); formulas = [] }) (map rows_field b) (record { lists = ls; rows = l; formulas = [] })) (append_assoc a (x ∷ []) b)
     (from_rows ls (a ++ (x ∷ [])) b (omega (arith, length-append a (x ∷ []))) g.1))
 
-from_formulas : (ls : List (List ℤ)) (rs : List RowsField) (a b : List Condition) → length rs + (length a + length b) ≤ 64 → Each (GoodFormula ls) b → From (record { lists = ls; rows = rs; formulas = a }) (map formula_field b) (record { lists = ls; rows = rs; formulas = a ++ b })
+from_formulas : (ls : List (List ℤ)) (rs : List RowsField) (a b : List Condition) → length rs + (length a + length b) ≤ 64 → AllByRecursion (GoodFormula ls) b → From (record { lists = ls; rows = rs; formulas = a }) (map formula_field b) (record { lists = ls; rows = rs; formulas = a ++ b })
 from_formulas ls rs a [] h g = subst (λ l. From (record { lists = ls; rows = rs; formulas = a }) [] (record { lists = ls; rows = rs; formulas = l })) (sym (append-nil a)) none
 from_formulas ls rs a (c ∷ b) h g =
     more (adds_formula c (omega arith) g.0)

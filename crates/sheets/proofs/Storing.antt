@@ -1,11 +1,11 @@
 -- What the stores hold after one more field. Assumes nothing.
 use Rattle.std.proofs.Common.{◌≡◌, ℕ, suc, ◌+◌, ◌*◌, ◌≤◌, List, [], ◌∷◌, ◌++◌, map, length, ℤ, pos, sym, refl, ap, ◌∙◌, append_assoc, append-nil, arith, length-append}
-use Rattle.std.specs.List.{flat_map}
+use Rattle.std.specs.List.{flat_map, AllByRecursion}
 use Rattle.std.proofs.lemmas.List.{flat_map_more}
 use Rattle.formulas.specs.Tree.{Condition}
 use Rattle.formulas.specs.Layout.{size, layout}
 use Rattle.formulas.proofs.Layouts.{size_layout, size_text}
-use Rattle.sheets.specs.Sheet.{Sheet, RowsField, field_bytes, cell_field, rows_field, formula_field, bytes_of, GoodList, Each}
+use Rattle.sheets.specs.Sheet.{Sheet, RowsField, field_bytes, cell_field, rows_field, formula_field, bytes_of, GoodList}
 use Rattle.sheets.specs.Stored.{filled, places_of, stored_rule_of, rules_of, formula_of, formulas_of, nodes_of}
 use Rattle.sheets.proofs.Fields.{joined_append}
 use Rattle.sheets.proofs.Filled.{length_filled}
@@ -51,7 +51,7 @@ nodes_count cs c =
     ∙ ap (λ k. length (nodes_of 0 cs) + k) (size_layout (0 + length (nodes_of 0 cs)) c)
 
 -- lists, 64 places each
-pub length_numbers : (ls : List (List ℤ)) → Each GoodList ls → length (flat_map (filled (pos 0) 64) ls) ≡ 64 * length ls
+pub length_numbers : (ls : List (List ℤ)) → AllByRecursion GoodList ls → length (flat_map (filled (pos 0) 64) ls) ≡ 64 * length ls
 length_numbers [] g = refl
 length_numbers (l ∷ ls) g =
     length-append (filled (pos 0) 64 l) (flat_map (filled (pos 0) 64) ls)
