@@ -1,14 +1,14 @@
 -- What is written of the stores and the file is the sheet's text. Assumes nothing.
 use Rattle.std.proofs.Common.{◌≡◌, ℕ, zero, suc, ◌+◌, ◌-◌, ◌*◌, ◌^◌, ◌<◌, ◌≤◌, min, List, [], ◌∷◌, ◌++◌, map, length, get_or, take, drop, replicate, ℤ, pos, sym, refl, ap, ◌∙◌, ap₂, ⊎_elim, append_assoc, suc-mul, zero-mul, arith, length-append}
 use lib.ListN.{length-map}
-use Rattle.std.specs.List.{range_with_len, flat_map}
+use Rattle.std.specs.List.{range_with_len, flat_map, AllByRecursion}
 use Rattle.std.proofs.lemmas.List.FromFn.{fill_by_all}
 use Rattle.std.proofs.lemmas.List.{take_at, drop_at, drop_all}
 use Rattle.std.proofs.lemmas.Bool.{cases_lt}
 use Rattle.rows.specs.declared.rule.RowsRule.{RowsRule}
 use Rattle.formulas.specs.Tree.{Condition}
 use Rattle.sheets.specs.declared.stores.Extent.{Extent}
-use Rattle.sheets.specs.Sheet.{Sheet, RowsField, Field, GoodList, GoodRows, Each, cell_field, rows_field, formula_field, field_bytes, fields_of, file_of}
+use Rattle.sheets.specs.Sheet.{Sheet, RowsField, Field, GoodList, GoodRows, cell_field, rows_field, formula_field, field_bytes, fields_of, file_of}
 use Rattle.sheets.specs.Stored.{Contents, filled, places_of, stored_rule_of, rules_of}
 use Rattle.sheets.proofs.Fields.{joined_append}
 use Rattle.sheets.proofs.Storing.{length_rules}
@@ -62,7 +62,7 @@ field_same x m p q bytes wide l e =
 abbrev WideRows : RowsField → Type 0
 WideRows x = Wide (length x.cells) x.rows
 
-rules_same : (xs : List RowsField) (r n : ℕ) (p q bytes : List ℕ) → Each WideRows xs → length p ≡ n → bytes ≡ p ++ (flat_map places_of xs ++ q)
+rules_same : (xs : List RowsField) (r n : ℕ) (p q bytes : List ℕ) → AllByRecursion WideRows xs → length p ≡ n → bytes ≡ p ++ (flat_map places_of xs ++ q)
     → numbered (λ k rule. rows_line k (field_of bytes rule)) r (rules_of n xs) ≡ numbered rows_line r xs
 rules_same [] r n p q bytes w l e = refl
 rules_same (x ∷ xs) r n p q bytes w l e =
@@ -105,7 +105,7 @@ module _ (held : Contents) (e : Extent) (s : Sheet) (h : Holds held e s) where
   short : Short s.lists
   short = each_map GoodList (λ zs. length zs ≤ 64) s.lists (λ zs g. g.few) h.good.lists
 
-  wide : Each WideRows s.rows
+  wide : AllByRecursion WideRows s.rows
   wide = each_map (GoodRows s.lists) WideRows s.rows (λ x g i l. (g.rows i l).wide) h.good.rows
 
   module _ (rules : List RowsRule) (are : rules ≡ rules_of 0 s.rows) where

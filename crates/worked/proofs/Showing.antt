@@ -197,9 +197,9 @@ module _ {C : Type 0} (k : Machine C) (e m : BookMeaning) (agree : Agree e m) (l
       cond_both (allowed? lengths e.count c) (then (do_call k e lengths fuel h x c) rest) None (All (Play (a ∷ after) y))
       (λ yes.
       then_all (Does a c t) (Play (a ∷ after) y) (do_call k e lengths fuel h x c) rest
-      (does c x t b a h w.0 (subst (λ z. Judged (sheet lengths m) (sizes b.buffers) z 0) (sym w.0) (judged opens c (sizes b.buffers) w.1 yes)) d)
+      (does c x t b a h w.0.0 (subst (λ z. Judged (sheet lengths m) (sizes b.buffers) z 0) (sym w.0.0) (judged opens c (sizes b.buffers) w.0.1 yes)) d)
       (λ g q.
       then_all (Play after y) (Play (a ∷ after) y) (plays k e lengths fuel cs (made c g.shown ∷ h) g.after) (add_shown g.shown)
-      (plays_sound opens cs (made c g.shown ∷ h) g.after y before after w.2 (subst₂ (λ i z. PlaysByRuns k (sheet lengths m) (i ∷ h) z before after y) q.did q.left p))
+      (plays_sound opens cs (made c g.shown ∷ h) g.after y before after w.1 (subst₂ (λ i z. PlaysByRuns k (sheet lengths m) (i ∷ h) z before after y) q.did q.left p))
       (λ r z. ((q.shows, z.0), z.1))))
       (λ no. tt)
