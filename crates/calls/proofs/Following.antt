@@ -18,7 +18,8 @@ use Rattle.calls.specs.Sheet.{Sheet, Sizes, Judged, Judged.shut, Judged.pins, Ju
 use Rattle.calls.specs.History.{Did, standing}
 use Rattle.calls.specs.Plays.{sizes, did, Makes, Makes.refused, Makes.changed, Makes.fitted, Plays.none, Plays.more}
 use Rattle.calls.specs.Promise.{lines_of, filling_of}
-use Rattle.calls.specs.Runs.{Ran, start_after, Alone, Comes, StepRuns, PlaysByRuns, Alike, Agree, Follows}
+use Rattle.runs.specs.Law.{Alone}
+use Rattle.calls.specs.Runs.{Ran, start_after, Comes, StepRuns, PlaysByRuns, Alike, Agree, Follows}
 use Rattle.calls.proofs.RunLaws.{ran_fixed}
 use Rattle.calls.proofs.Fillings.{starts_long}
 

@@ -9,7 +9,7 @@ use Rattle.network.specs.Book.{Lawful}
 use Rattle.network.specs.Fillings.{Inside, MeetsAll, Meetable}
 use Rattle.choosers.specs.Choice.{Machine, Naming}
 use Rattle.runs.specs.declared.line.Line.{Line}
-use Rattle.runs.specs.Law.{Right, Fills}
+use Rattle.runs.specs.Law.{Right, Fills, Alone}
 use Rattle.cores.specs.Core.{Core, Outcome, Outcome.left, Outcome.core}
 use Rattle.cores.specs.Fit.{Fit, Fit.fills}
 use Rattle.cores.proofs.CoreLaw.{fit_law}
@@ -23,7 +23,7 @@ use Rattle.calls.specs.Sheet.{Sheet, Sizes, Opens, Judged, Judged.shut, Judged.p
 use Rattle.calls.specs.History.{Did, accepted, pinned, standing, Valid, on_after, Fillable}
 use Rattle.calls.specs.Plays.{sizes, did, Makes, Makes.refused, Makes.changed, Makes.fitted, Plays, Plays.none, Plays.more}
 use Rattle.calls.specs.Promise.{lines_of, filling_of, Ended, Ended.filled, Ended.clashed, FillingOrCore, FillingsAndCores}
-use Rattle.calls.specs.Runs.{Ran, start_after, Alone, Comes, StepRuns, StepDone, PlaysByRuns}
+use Rattle.calls.specs.Runs.{Ran, start_after, Comes, StepRuns, StepDone, PlaysByRuns}
 use Rattle.calls.proofs.RunLaws.{ran_lawful, ran_fills}
 use Rattle.calls.proofs.Fillings.{starts_long, few_rules, where_small, inside_filling, met_fillable, fillable_met}
 
@@ -44,7 +44,7 @@ module _ {C : Type 0} (k : Machine C) (naming : Naming k) (s : Sheet) (law : Law
   alone_fills : {sets f : List ℕ} {on : ℕ} {start : List ℕ} → Fills s.book start on sets → Alone sets f → length f ≡ length start → Inside f start × MeetsAll s.book on f
   alone_fills {sets} {f} {on} {start} p q long =
       let e : p.filling ≡ f = ext_get_or 0 p.filling f (p.inside.long ∙ sym long) (λ c lt.
-      let l : c < length sets = let a = p.left.long in omega arith in q.only c (get_or p.filling c 0) (p.left.each c l)) in
+      let l : c < length sets = let a = p.left.there.long in omega arith in q.only c (get_or p.filling c 0) (p.left.there.each c l)) in
       (subst (λ (x : List ℕ). Inside x start) e p.inside, subst (MeetsAll s.book on) e p.meets)
 
   -- the first run of a Fit that ends with what it left
@@ -63,7 +63,7 @@ module _ {C : Type 0} (k : Machine C) (naming : Naming k) (s : Sheet) (law : Law
         let fl = first_run p in
         let same : take (length (start_after s h)) (vec_items a.buffers.filling) ≡ filling_of s a = ap (λ (x : ℕ). take x (vec_items a.buffers.filling)) long in
         let alone : Alone sets (filling_of s a) = subst (Alone sets) same c.1 in
-        let wide : length (filling_of s a) ≡ length (start_after s h) = alone.there.long ∙ sym fl.left.long ∙ fl.inside.long in
+        let wide : length (filling_of s a) ≡ length (start_after s h) = alone.there.long ∙ sym fl.left.there.long ∙ fl.inside.long in
         let q = alone_fills fl alone wide in
         let l = fit_law (Ran k s.book (start_after s h)) (Meetable s.book (start_after s h)) (ran_lawful k naming s.book law (start_after s h)) small_on p in
         filled (record { filling = inside_filling s opens h valid (filling_of s a) q.0; meets = q.1; one = sym count ∙ l.ends.1; no_core = c.0 })

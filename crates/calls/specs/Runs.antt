@@ -1,11 +1,10 @@
 -- Which filling, core and lines a Fit gives: those of its runs. Assumes nothing.
 use Rattle.std.specs.Prelude.{◌≡◌, ℕ, ◌-◌, ◌^◌, ◌≤◌, List, [], map, length, take, replicate, Some, None, vec_items, vec_len, Option, slice_index}
 use Rattle.std.specs.List.{range_with_len, AllZip}
-use Rattle.network.specs.Book.{BookMeaning, Remains}
-use Rattle.network.specs.Fillings.{Inside}
+use Rattle.network.specs.Book.{BookMeaning}
 use Rattle.choosers.specs.Choice.{Machine}
 use Rattle.runs.specs.declared.line.Line.{Line}
-use Rattle.runs.specs.Law.{Ready}
+use Rattle.runs.specs.Law.{Ready, Alone}
 use Rattle.runs.specs.Run.{Run}
 use Rattle.cores.specs.Core.{Outcome, Outcome.left, Outcome.core}
 use Rattle.cores.specs.Fit.{Fit}
@@ -35,11 +34,6 @@ starts lengths pins = map (λ c. start_of (slice_index lengths c) (pins c)) (ran
 -- what each cell starts with after the calls h
 abbrev pub start_after : Sheet → List Did → List ℕ
 start_after s h = starts s.lengths (standing h)
-
--- the sets hold one place a cell, that of the filling
-pub record Alone (sets f : List ℕ) : Type 0 where
-  pub there : Inside f sets
-  pub only : (c v : ℕ) → Remains sets c v → v ≡ slice_index f c
 
 -- what a Fit returns by its outcome: the filling that its first run left, or the core that its rounds found
 abbrev pub Comes : Outcome (List ℕ) → Values → List ℕ → Type 0

@@ -54,13 +54,17 @@ pub record Ready (m : BookMeaning) (start : List ℕ) (listed : ℕ) : Type 0 wh
   pub known : (r : ℕ) → In listed r → r < m.count
   pub full : Full start
 
+-- the sets hold one place a cell, that of the filling
+pub record Alone (sets f : List ℕ) : Type 0 where
+  pub there : Inside f sets
+  pub only : (c v : ℕ) → Remains sets c v → v ≡ slice_index f c
+
 -- the sets left are a filling inside the starting ones that meets the rules: its place, and no other, remains at each cell
 pub record Fills (m : BookMeaning) (start : List ℕ) (rules : ℕ) (sets : List ℕ) : Type 0 where
   pub filling : List ℕ
   pub inside : Inside filling start
   pub meets : MeetsAll m rules filling
-  pub left : Inside filling sets
-  pub only : (c v : ℕ) → Remains sets c v → v ≡ slice_index filling c
+  pub left : Alone sets filling
 
 -- a line is right, where Fits a says that some filling meets the rules of a: the verdict is Met exactly if some filling meets the listed rules,
 -- else it is Unmet, and then the rules used are among them and no filling meets these

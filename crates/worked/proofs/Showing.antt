@@ -9,7 +9,7 @@ use Rattle.bits.proofs.Bits.{has_pow}
 use Rattle.network.specs.Book.{BookMeaning}
 use Rattle.choosers.specs.Choice.{Machine}
 use Rattle.runs.specs.declared.line.Line.{Line}
-use Rattle.runs.specs.Law.{Ready}
+use Rattle.runs.specs.Law.{Ready, Alone}
 use Rattle.cores.specs.Core.{Outcome, Outcome.left, Outcome.core}
 use Rattle.cores.specs.Fit.{Fit, Fit.fills, Fit.clashes}
 use Rattle.cores.proofs.Unique.{fit_same}
@@ -24,7 +24,7 @@ use Rattle.calls.specs.Answers.{said, returned}
 use Rattle.calls.specs.Sheet.{sheet, Sizes, Opens, passes, Enough, Judged, Judged.pins, Judged.frees, Judged.switches, Judged.fits}
 use Rattle.calls.specs.History.{Did, standing, is_on, set_where, on_after}
 use Rattle.calls.specs.Plays.{sizes, did, Makes, refused, changed, fitted, none as no_calls, more as and_more}
-use Rattle.calls.specs.Runs.{Ran, start_after, Alone, Comes, StepRuns, PlaysByRuns}
+use Rattle.calls.specs.Runs.{Ran, start_after, Comes, StepRuns, PlaysByRuns}
 use Rattle.calls.proofs.Fillings.{starts_long}
 use Rattle.calls.proofs.Following.{judged_same, said_same}
 use Rattle.calls.proofs.RunLaws.{ran_fixed}
