@@ -1,5 +1,6 @@
 -- Formulas as trees, and the text of each, as the codes of its characters. The grammar is canonical: a tree has one text, and a text at most one tree. Assumes nothing.
-use Rattle.std.specs.Prelude.{ℕ, suc, ◌+◌, ◌<◌, ◌≤◌, max, Bool, true, false, cond, List, [], ◌∷◌, ◌++◌, map, ℤ, pos, negsuc, ◌==◌}
+use Rattle.std.specs.Prelude.{ℕ, suc, ◌+◌, ◌<◌, ◌≤◌, max, Bool, cond, List, [], ◌∷◌, ◌++◌, map, ℤ, pos, negsuc, ◌==◌}
+use Rattle.std.specs.List.{list_any}
 use Rattle.std.specs.Int.Digits.{digits_of}
 use Rattle.formulas.specs.declared.node.Shift.{Shift}
 use Rattle.formulas.specs.declared.node.Shift.TheVariants.{Bare, Plus, Minus}
@@ -137,8 +138,7 @@ abbrev mutual
 
 -- whether c is among some cells
 abbrev pub among : ℕ → List ℕ → Bool
-among c [] = false
-among c (x ∷ xs) = cond (c == x) true (among c xs)
+among c xs = list_any (λ x. c == x) xs
 
 -- some cells with more after them, each only where it first appears
 abbrev pub noted : List ℕ → List ℕ → List ℕ

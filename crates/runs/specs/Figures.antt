@@ -1,5 +1,5 @@
 -- What a chooser is given of each cell: how many places remain, and the weighted degree. Assumes nothing.
-use Rattle.std.specs.Prelude.{ℕ, Bool, cond, not, ◌&&◌, List, map, length, sum, ◌==◌, nat_eq, nat_lt, slice_index}
+use Rattle.std.specs.Prelude.{ℕ, Bool, cond, not, ◌&&◌, List, map, length, sum, ◌==◌, nat_lt, slice_index}
 use Rattle.std.specs.List.{range_with_len, list_any}
 use Rattle.bits.specs.Sets.{in?, size}
 use Rattle.network.specs.Book.{BookMeaning}
@@ -12,7 +12,7 @@ open? sets c = nat_lt 1 (size (left_at sets c))
 
 -- among a rule's cells is the cell c, and another one that is open
 abbrev pub joins? : List ℕ → ℕ → List ℕ → Bool
-joins? sets c cells = list_any (λ d. nat_eq d c) cells && list_any (λ d. not (d == c) && open? sets d) cells
+joins? sets c cells = list_any (λ d. d == c) cells && list_any (λ d. not (d == c) && open? sets d) cells
 
 -- what the rule r adds to the weighted degree of the cell c: its weight, if it is listed and has c and another open cell
 abbrev pub share : BookMeaning → ℕ → List ℕ → List ℕ → ℕ → ℕ → ℕ

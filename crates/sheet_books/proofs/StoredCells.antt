@@ -1,8 +1,8 @@
 -- The cells that a formula names: known to the sheet, and different. Assumes nothing.
-use Rattle.std.proofs.Common.{◌≡◌, ℕ, zero, suc, ◌<◌, ◌≤◌, true, false, cond, eqb, List, [], ◌∷◌, ◌++◌, length, get_or, sym, ◌∙◌, ⊎_elim, arith}
+use Rattle.std.proofs.Common.{◌≡◌, ℕ, zero, suc, ◌<◌, ◌≤◌, false, cond, eqb, List, [], ◌∷◌, ◌++◌, length, get_or, sym, ◌∙◌, ⊎_elim, arith}
 use Rattle.std.specs.List.{AllByRecursion}
 use Rattle.std.proofs.lemmas.List.{get_or_append_left, get_or_push, length_push}
-use Rattle.std.proofs.lemmas.Bool.{cases_Bool, cases_lt, cond_both, cond-true, cond-false, both_ways, eq-eqb, true≢false}
+use Rattle.std.proofs.lemmas.Bool.{cases_lt, cond_both, both_ways, eq-eqb, or_left, or_parts}
 use Rattle.formulas.specs.declared.node.Side.{Side}
 use Rattle.formulas.specs.declared.node.Side.TheVariants.{Number, Cell}
 use Rattle.formulas.specs.Tree.{Condition, compares, negates, all, any, Conditions, one, more, KnownSide, Known, KnownAll, side_cells, mentions, list_mentions, among, noted, cells_of}
@@ -50,12 +50,8 @@ Apart cs = (j k : ℕ) → j < k → k < length cs → get_or cs j 0 ≡ get_or 
 
 not_among : (c : ℕ) (xs : List ℕ) → among c xs ≡ false → (k : ℕ) → k < length xs → get_or xs k 0 ≡ c → ⊥
 not_among c [] f k h e = omega arith
-not_among c (x ∷ xs) f zero h e = both_ways _ f (cond-true (eqb c x) true (among c xs) (eq-eqb c x (sym e)))
-not_among c (x ∷ xs) f (suc k) h e =
-    ⊎_elim
-    (λ t. true≢false (sym (cond-true (eqb c x) true (among c xs) t) ∙ f))
-    (λ g. not_among c xs (sym (cond-false (eqb c x) true (among c xs) g) ∙ f) k (omega arith) e)
-    (cases_Bool (eqb c x))
+not_among c (x ∷ xs) f zero h e = both_ways _ f (or_left (eqb c x) (among c xs) (eq-eqb c x (sym e)))
+not_among c (x ∷ xs) f (suc k) h e = not_among c xs (or_parts (eqb c x) (among c xs) f).1 k (omega arith) e
 
 push_apart : (cs : List ℕ) (c : ℕ) → Apart cs → among c cs ≡ false → Apart (cs ++ (c ∷ []))
 push_apart cs c a f j k l h e =
