@@ -1,23 +1,19 @@
 -- The text of a Fit on a sheet that was read into the stores, and the text for its file. Assumes nothing.
-use Rattle.std.proofs.Common.{◌≡◌, ℕ, ◌+◌, ◌-◌, ◌*◌, ◌<◌, ◌≤◌, List, [], map, length, get_or, replicate, ℤ, pos, Err, sym, ap, ◌∙◌, subst, arith}
+use Rattle.std.proofs.Common.{◌≡◌, ℕ, ◌+◌, ◌-◌, ◌*◌, ◌<◌, ◌≤◌, List, [], map, length, get_or, replicate, ℤ, pos, sym, ap, ◌∙◌, subst, arith}
 use lib.ListN.{length-map}
 use Rattle.std.proofs.lemmas.Option.{none-some}
 use Rattle.network.specs.Book.{BookMeaning}
 use Rattle.choosers.specs.Choice.{Machine}
 use Rattle.calls.specs.Sheet.{Sheet, sheet, cells, places}
 use Rattle.calls.specs.Promise.{filling_of, Ended, filled, clashed}
-use Rattle.sheets.specs.declared.fault.LoadFault.{LoadFault}
 use Rattle.sheets.specs.declared.stores.Extent.{Extent}
-use Rattle.sheets.specs.Faults.{number as fault_number, offset as fault_offset}
 use Rattle.sheets.specs.Sheet.{Sheet as Stated, GoodList}
 use Rattle.sheets.specs.Stored.{Contents}
 use Rattle.sheets.specs.Meaning.{Means, number_at}
 use Rattle.sheet_books.specs.Books.{Holds}
 use Rattle.bits.proofs.Lists.{each_map}
 use Rattle.sheet_books.proofs.StoredNumbers.{spread, number_there, length_there}
-use Rattle.storage.specs.Outcome.{Outcome, too_long as long, faulty as refused}
-use Rattle.text.specs.Text.{fault_text}
-use Rattle.answers.specs.Answers.{usual, usual_start, FitText, unopened, fits, clashes, SheetText, Answers, too_long, faulty}
+use Rattle.answers.specs.Answers.{usual, usual_start, FitText, unopened, fits, clashes, SheetText}
 use Rattle.answers.proofs.Telling.{fits_same}
 
 -- only the numbers at places of the lists are told
@@ -51,8 +47,3 @@ module _ (h : Contents) (e : Extent) (s : Stated) (holds : Holds h e s) where
         (λ c v l m. number_stored c v (omega (arith, length-map s.lists length)) (omega (arith, length_there s.lists c))) t
         (subst (λ x. FitText usual usual_start (sheet x book) (λ c v. get_or h.numbers (64 * c + v) (pos 0)) t) is text);
   }
-
--- the text for a file that is refused
-pub refused_text : (file : List ℕ) (e : LoadFault) → Outcome file (Err e) → Answers file (fault_text (fault_number e) (fault_offset e))
-refused_text file e (long l) = too_long l
-refused_text file e (refused l with) = faulty l with

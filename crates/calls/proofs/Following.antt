@@ -1,5 +1,6 @@
 -- What is played by runs follows from the sheet, the chooser and the calls. Assumes nothing.
 use Rattle.std.proofs.Common.{◌≡◌, ℕ, ◌<◌, cond, eqb, List, [], ◌∷◌, length, get_or, take, Some, None, vec_items, Option, sym, refl, ap, ◌∙◌, subst, subst₂, arith}
+use Rattle.std.specs.List.{AllZip}
 use Rattle.std.proofs.lemmas.List.{length-take-le, ext_get_or}
 use Rattle.choosers.specs.Choice.{Machine}
 use Rattle.cores.specs.Core.{Outcome, Outcome.left, Outcome.core}
@@ -17,7 +18,8 @@ use Rattle.calls.specs.Sheet.{Sheet, Sizes, Judged, Judged.shut, Judged.pins, Ju
 use Rattle.calls.specs.History.{Did, standing}
 use Rattle.calls.specs.Plays.{sizes, did, Makes, Makes.refused, Makes.changed, Makes.fitted, Plays.none, Plays.more}
 use Rattle.calls.specs.Promise.{lines_of, filling_of}
-use Rattle.calls.specs.Runs.{Ran, start_after, Alone, Comes, StepRuns, PlaysByRuns, Alike, Agree, Pairwise, Pairwise.none as no_pairs, Pairwise.more as and_pairs, Follows}
+use Rattle.runs.specs.Law.{Alone}
+use Rattle.calls.specs.Runs.{Ran, start_after, Comes, StepRuns, PlaysByRuns, Alike, Agree, Follows}
 use Rattle.calls.proofs.RunLaws.{ran_fixed}
 use Rattle.calls.proofs.Fillings.{starts_long}
 
@@ -179,14 +181,16 @@ module _ {C : Type 0} (k : Machine C) (s : Sheet) where
         q.3,
       )
 
-  plays_same : {before before' : List Step} → Pairwise Alike before before' → (h : List Did) (x y y' : Lasting C) (after after' : List Step) → PlaysByRuns k s h x before after y
-      → PlaysByRuns k s h x before' after' y' → Pairwise (Agree s) after after' × (y ≡ y')
-  plays_same no_pairs h x y y' after after' none none = (no_pairs, refl)
-  plays_same (and_pairs e es) h x y y' _ _ (more {t = t} {a = a} {after = after} d p) (more {a = a'} {before = before'} {after = after'} d' p') =
-      let q = makes_same e d d' in
+  plays_same : (before before' : List Step) → AllZip Alike before before' → (h : List Did) (x y y' : Lasting C) (after after' : List Step) → PlaysByRuns k s h x before after y
+      → PlaysByRuns k s h x before' after' y' → AllZip (Agree s) after after' × (y ≡ y')
+  plays_same [] [] e h x y y' after after' none none = (tt, refl)
+  plays_same [] (c' ∷ bs') e h x y y' after after' p p' = absurd e
+  plays_same (c ∷ bs) [] e h x y y' after after' p p' = absurd e
+  plays_same (c ∷ bs) (c' ∷ bs') e h x y y' _ _ (more {t = t} {a = a} {after = after} d p) (more {a = a'} {before = before'} {after = after'} d' p') =
+      let q = makes_same e.0 d d' in
       let i : did a ≡ did a' = did_same q.0.call q.0.answer in
-      let r = plays_same es (did a ∷ h) t y y' after after' p (subst₂ (λ (c : Did) (t : Lasting C). PlaysByRuns k s (c ∷ h) t before' after' y') (sym i) (sym q.1) p') in
-      (and_pairs q.0 r.0, r.1)
+      let r = plays_same bs bs' e.1 (did a ∷ h) t y y' after after' p (subst₂ (λ (c : Did) (t : Lasting C). PlaysByRuns k s (c ∷ h) t before' after' y') (sym i) (sym q.1) p') in
+      ((q.0, r.0), r.1)
 
   pub plays_follow : {x y : Lasting C} {before after : List Step} → PlaysByRuns k s [] x before after y → Follows k s x before after y
-  plays_follow {x} {y} {after = after} p before' after' y' e q = plays_same e [] x y y' after after' p q
+  plays_follow {x} {y} {before} {after} p before' after' y' e q = plays_same before before' e [] x y y' after after' p q

@@ -8,7 +8,7 @@ use Rattle.network.specs.Book.{Lawful}
 use Rattle.network.specs.Fillings.{Inside, MeetsAll, Meetable}
 use Rattle.choosers.specs.Choice.{Machine, Naming}
 use Rattle.runs.specs.declared.line.Line.{Line}
-use Rattle.runs.specs.Law.{Right, Fills}
+use Rattle.runs.specs.Law.{Right, Fills, Alone}
 use Rattle.cores.specs.Core.{Core, Ends, Short, Outcome, Outcome.left, Outcome.core}
 use Rattle.cores.specs.Fit.{Fit, Fit.fills}
 use Rattle.cores.proofs.CoreLaw.{fit_law}
@@ -21,7 +21,7 @@ use Rattle.calls.specs.Sheet.{Sheet, Sizes, Opens, Judged, Judged.shut, Judged.p
 use Rattle.calls.specs.History.{Did, accepted, pinned, standing, is_on, Valid, on_after, Fillable}
 use Rattle.calls.specs.Plays.{sizes, did, Makes, Makes.refused, Makes.changed, Makes.fitted, Plays, Plays.none, Plays.more}
 use Rattle.calls.specs.Promise.{lines_of, filling_of, Ended, Ended.filled, Ended.clashed, FillingOrCore, FillingsAndCores}
-use Rattle.calls.specs.Runs.{Ran, start_after, Alone, Comes, FitRuns, FitLaw, StepRuns, StepDone, PlaysByRuns}
+use Rattle.calls.specs.Runs.{Ran, start_after, Comes, FitRuns, FitLaw, StepRuns, StepDone, PlaysByRuns}
 use Rattle.calls.proofs.RunLaws.{ran_lawful, ran_fills}
 use Rattle.calls.proofs.Fillings.{starts_long, few_rules, where_low, inside_filling, met_fillable, fillable_met}
 
@@ -45,7 +45,7 @@ module _ {C : Type 0} (k : Machine C) (naming : Naming k) (s : Sheet) (law : Law
   alone_fills : {sets f : List ℕ} {on : ℕ} {start : List ℕ} → Fills s.book start on sets → Alone sets f → length f ≡ length start → Inside f start × MeetsAll s.book on f
   alone_fills {sets} {f} {on} {start} p q long =
       let e : p.filling ≡ f = ext_get_or 0 p.filling f (p.inside.long ∙ sym long) (λ c lt.
-      let l : c < length sets = let a = p.left.long in omega arith in q.only c (get_or p.filling c 0) (p.left.each c l)) in
+      let l : c < length sets = let a = p.left.there.long in omega arith in q.only c (get_or p.filling c 0) (p.left.there.each c l)) in
       (subst (λ (x : List ℕ). Inside x start) e p.inside, subst (MeetsAll s.book on) e p.meets)
 
   -- the first run of a Fit that ends with what it left
@@ -65,7 +65,7 @@ module _ {C : Type 0} (k : Machine C) (naming : Naming k) (s : Sheet) (law : Law
           → Inside (take (length start) filling) start × MeetsAll s.book on (take (length start) filling) × (f.lines ≡ 1)
       filled_by (left sets) p c e count empty =
           let fl = first_run p in
-          let q = alone_fills fl c.1 (c.1.there.long ∙ sym fl.left.long ∙ fl.inside.long) in
+          let q = alone_fills fl c.1 (c.1.there.long ∙ sym fl.left.there.long ∙ fl.inside.long) in
           (q.0, q.1, sym count ∙ e.1)
       filled_by (core found) p c e count empty = absurd (some_none (sym c ∙ empty))
 

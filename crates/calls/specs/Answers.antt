@@ -36,11 +36,12 @@ said Done = plain 0
 said (Fitted f) = returned f
 said (Refused r) = plain (number_of r)
 
--- the answer to a Pin, a Free or a Switch, and the answer to a Fit, from what the call returns
+-- the answer to a Pin, a Free or a Switch, from what the call returns
 abbrev pub to_change : Result (Unit {0}) Refusal → Answer
 to_change (Ok u) = Done
 to_change (Err r) = Refused r
 
+-- the answer to a Fit, from what it returns
 abbrev pub to_fit : Result Values Refusal → Answer
 to_fit (Ok f) = Fitted f
 to_fit (Err r) = Refused r

@@ -18,13 +18,14 @@ pub record Did : Type 0 where
 abbrev pub accepted : Did → Bool
 accepted d = (said d.answer).number == 0
 
--- the pin of the cell c, and whether the rule r is on, after a call that was not refused
+-- the pin of the cell c after a call that was not refused, where it was `was` before
 abbrev pub pinned : Call → ℕ → Option ℕ → Option ℕ
 pinned (Pin cell place) c was = cond (cell == c) (Some place) was
 pinned (Free cell) c was = cond (cell == c) None was
 pinned (Switch rule on) c was = was
 pinned Fit c was = was
 
+-- whether the rule r is on after such a call, where `was` says so of before
 abbrev pub switched : Call → ℕ → Bool → Bool
 switched (Pin cell place) r was = was
 switched (Free cell) r was = was
@@ -36,7 +37,7 @@ abbrev pub standing : List Did → ℕ → Option ℕ
 standing [] c = None
 standing (d ∷ h) c = cond (accepted d) (pinned d.call c (standing h c)) (standing h c)
 
--- the rule r is on at first, and is set on or off by each accepted Switch of it
+-- the rule r is on before all calls; after some calls, the latest first, it is as the latest accepted Switch of it has set it
 abbrev pub is_on : List Did → ℕ → Bool
 is_on [] r = true
 is_on (d ∷ h) r = cond (accepted d) (switched d.call r (is_on h r)) (is_on h r)

@@ -8,6 +8,7 @@ use Rattle.calls.specs.Answers.{said, plain, returned}
 use Rattle.calls.specs.Sheet.{Sheet, Sizes, Judged}
 use Rattle.calls.specs.History.{Did}
 
+-- the lengths of the buffers
 abbrev pub sizes : Buffers → Sizes
 sizes b = record { work = vec_len b.work; log = vec_len b.log; filling = vec_len b.filling }
 
@@ -15,14 +16,15 @@ sizes b = record { work = vec_len b.work; log = vec_len b.log; filling = vec_len
 abbrev pub did : Step → Did
 did s = record { call = s.call; answer = s.answer }
 
--- the same call, its buffers untouched
+-- the step a makes the same call as b, and its buffers are as those of b
 pub record Untouched (b a : Step) : Type 0 where
   pub call : a.call ≡ b.call
   pub work : vec_items a.buffers.work ≡ vec_items b.buffers.work
   pub log : vec_items a.buffers.log ≡ vec_items b.buffers.log
   pub filling : vec_items a.buffers.filling ≡ vec_items b.buffers.filling
 
--- S is what lasts from Fit to Fit; F h s b a f t says what a Fit does after the calls h: from s, with the step b, it comes to the step a, returns f, and leaves t
+-- S is what lasts from Fit to Fit. A step is a call with its buffers and its answer: b as it was before the call, a as it is after it.
+-- F h s b a f t says what a Fit does after the calls h, the latest first: from s, and with the step b, it comes to the step a, returns f, and leaves t
 module _ {S : Type 0} (sheet : Sheet) (F : List Did → S → Step → Step → Values → S → Type 0) where
   -- one call after the calls h: refused as it is judged, it changes nothing; otherwise it is done, and only a Fit touches its buffers and what lasts
   pub data Makes (h : List Did) : S → Step → Step → S → Type 0 where

@@ -12,10 +12,11 @@ use Rattle.calls.specs.Sheet.{Sheet, cells}
 use Rattle.calls.specs.History.{Did, on_after, Filling, Fillable}
 use Rattle.calls.specs.Plays.{sizes, Plays}
 
--- the lines that a Fit wrote, and the bytes of its filling
+-- the lines that a Fit wrote, where it returned f
 abbrev pub lines_of : Step → Values → List Line
 lines_of a f = take f.lines (vec_items a.buffers.log)
 
+-- the bytes of its filling, one for each cell
 abbrev pub filling_of : Sheet → Step → List ℕ
 filling_of s a = take (cells s) (vec_items a.buffers.filling)
 
@@ -34,7 +35,7 @@ pub record Clashed (s : Sheet) (h : List Did) (a : Step) (f : Values) : Type 0 w
   pub core : Core (Fillable s h) (on_after s h) rules
   pub few : Short (size (on_after s h)) (size rules) f.lines
 
--- the one or the other
+-- a filling or a core
 pub data Ended (s : Sheet) (h : List Did) (a : Step) (f : Values) : Type 0 where
   filled : Filled s h a f → Ended s h a f
   clashed : Clashed s h a f → Ended s h a f
@@ -45,6 +46,7 @@ pub record Keeps (cells : ℕ) (f : Values) (log log' : List Line) (filling fill
   pub later : f.core ≡ None → drop cells filling' ≡ drop cells filling
   pub bytes : f.core ≢ None → filling' ≡ filling
 
+-- the same of the buffers of a step
 abbrev pub StepKeeps : Sheet → Step → Step → Values → Type 0
 StepKeeps s b a f = Keeps (cells s) f (vec_items b.buffers.log) (vec_items a.buffers.log) (vec_items b.buffers.filling) (vec_items a.buffers.filling)
 

@@ -1,12 +1,12 @@
 -- Which filling, core and lines a Fit gives: those of its runs. Assumes nothing.
-use Rattle.std.specs.Prelude.{◌≡◌, ℕ, ◌-◌, ◌^◌, ◌≤◌, List, [], ◌∷◌, map, length, take, replicate, Some, None, vec_items, vec_len, Option, slice_index}
-use Rattle.std.specs.List.{AllByRecursion, range_with_len}
+use Rattle.std.specs.Prelude.{◌≡◌, ℕ, ◌-◌, ◌^◌, ◌≤◌, List, [], map, length, take, replicate, Some, None, vec_items, vec_len, Option, slice_index}
+use Rattle.std.specs.List.{AllByRecursion, AllZip, range_with_len}
 use Rattle.bits.specs.Sets.{size}
-use Rattle.network.specs.Book.{BookMeaning, Remains}
+use Rattle.network.specs.Book.{BookMeaning}
 use Rattle.network.specs.Fillings.{Inside, MeetsAll, Meetable}
 use Rattle.choosers.specs.Choice.{Machine}
 use Rattle.runs.specs.declared.line.Line.{Line}
-use Rattle.runs.specs.Law.{Ready, Right}
+use Rattle.runs.specs.Law.{Ready, Right, Alone}
 use Rattle.runs.specs.Run.{Run}
 use Rattle.cores.specs.Core.{Core, Short, Outcome, Outcome.left, Outcome.core}
 use Rattle.cores.specs.Fit.{Fit}
@@ -24,22 +24,18 @@ pub record Ran {C : Type 0} (k : Machine C) (m : BookMeaning) (start : List ℕ)
   pub ready : Ready m start l.listed
   pub run : Run k m start l.listed s.chooser s.weights l t.chooser t.weights sets
 
--- what a cell starts with: all places of its list; where it is pinned, that place and no other
+-- what a cell starts with, where its list has so many places: all of them; where it is pinned, that place and no other
 abbrev pub start_of : ℕ → Option ℕ → ℕ
 start_of places None = 2 ^ places - 1
 start_of places (Some v) = 2 ^ v
 
+-- what each cell starts with
 abbrev pub starts : List ℕ → (ℕ → Option ℕ) → List ℕ
 starts lengths pins = map (λ c. start_of (slice_index lengths c) (pins c)) (range_with_len 0 (length lengths))
 
 -- what each cell starts with after the calls h
 abbrev pub start_after : Sheet → List Did → List ℕ
 start_after s h = starts s.lengths (standing h)
-
--- the sets hold one place a cell, that of the filling
-pub record Alone (sets f : List ℕ) : Type 0 where
-  pub there : Inside f sets
-  pub only : (c v : ℕ) → Remains sets c v → v ≡ slice_index f c
 
 -- what a Fit returns by its outcome: the filling that its first run left, or the core that its rounds found
 abbrev pub Comes : Outcome (List ℕ) → Values → List ℕ → Type 0
@@ -60,11 +56,11 @@ pub record FitLaw (m : BookMeaning) (start : List ℕ) (on : ℕ) (log : List Li
   pub clashed : (c : ℕ) → f.core ≡ Some c → (Meetable m start on → ⊥) × Core (Meetable m start) on c × Short (size on) (size c) f.lines
   pub right : AllByRecursion (Right (Meetable m start)) (take f.lines log)
 
--- the same for a step, after the calls h
+-- a Fit's runs, for the buffers of a step, after the calls h
 abbrev pub StepRuns : {C : Type 0} → Machine C → Sheet → List Did → Lasting C → Step → Values → Lasting C → Type 0
 StepRuns k s h x a f y = FitRuns k s.book (start_after s h) (on_after s h) x (vec_items a.buffers.log) (vec_items a.buffers.filling) f y
 
--- with what it keeps
+-- a Fit goes by its runs, keeps what it is to keep, and leaves the buffers as long as they were
 abbrev pub StepDone : {C : Type 0} → Machine C → Sheet → List Did → Lasting C → Step → Step → Values → Lasting C → Type 0
 StepDone k s h x b a f y = StepRuns k s h x a f y × StepKeeps s b a f × (sizes a.buffers ≡ sizes b.buffers)
 
@@ -90,13 +86,8 @@ pub record Agree (s : Sheet) (a a' : Step) : Type 0 where
   pub lines : (f : Values) → said a.answer ≡ returned f → lines_of a f ≡ lines_of a' f
   pub filling : (f : Values) → said a.answer ≡ returned f → f.core ≡ None → filling_of s a ≡ filling_of s a'
 
--- a relation of the steps of two lists, place by place
-pub data Pairwise (P : Step → Step → Type 0) : List Step → List Step → Type 0 where
-  none : Pairwise P [] []
-  more : {x y : Step} {xs ys : List Step} → P x y → Pairwise P xs ys → Pairwise P (x ∷ xs) (y ∷ ys)
-
 -- what was played follows from the sheet, the chooser at the start and the calls: whatever else the buffers hold at entry,
 -- every play of these calls by runs has these answers, lines and fillings, and leaves this
 abbrev pub Follows : {C : Type 0} → Machine C → Sheet → Lasting C → List Step → List Step → Lasting C → Type 0
-Follows {C} k s x before after y = (before' after' : List Step) (y' : Lasting C) → Pairwise Alike before before' → PlaysByRuns k s [] x before' after' y'
-    → Pairwise (Agree s) after after' × (y ≡ y')
+Follows {C} k s x before after y = (before' after' : List Step) (y' : Lasting C) → AllZip Alike before before' → PlaysByRuns k s [] x before' after' y'
+    → AllZip (Agree s) after after' × (y ≡ y')

@@ -9,13 +9,15 @@ pub record Sheet : Type 0 where
   pub lengths : List ℕ
   pub book : BookMeaning
 
+-- the sheet of these lengths and this book
 abbrev pub sheet : List ℕ → BookMeaning → Sheet
 sheet lengths book = record { lengths = lengths; book = book }
 
--- how many cells there are, and how many places the list of a cell has
+-- how many cells there are
 abbrev pub cells : Sheet → ℕ
 cells s = length s.lengths
 
+-- how many places the list of the cell c has
 abbrev pub places : Sheet → ℕ → ℕ
 places s c = slice_index s.lengths c
 
@@ -34,7 +36,8 @@ Within rule n = (i : ℕ) → i < length rule.cells → slice_index_or rule.cell
 abbrev pub Named : BookMeaning → ℕ → Type 0
 Named m n = (r : ℕ) → r < m.count → Within (m.rule r) n
 
--- what Open's check answers: 0 where it passes, or the number of the first reason to refuse
+-- what Open's check answers: 0 where it passes, or the number of the first reason to refuse: 11 for the lists, 12 for more than 64 rules,
+-- 13 for a rule that names a missing cell
 pub data Checked (s : Sheet) : ℕ → Type 0 where
   passes : Listed s.lengths → s.book.count ≤ 64 → Named s.book (cells s) → Checked s 0
   lists : (Listed s.lengths → ⊥) → Checked s 11
@@ -57,7 +60,8 @@ pub record Enough (z : Sizes) : Type 0 where
   pub log : 450 ≤ z.log
   pub filling : 64 ≤ z.filling
 
--- how a call is judged: with 0 where it is done, or with the number of the first reason to refuse it
+-- how a call is judged: with 0 where it is done, or with the number of the first reason to refuse it: 14 for a shut session, 15 for a missing cell,
+-- 16 for a missing place, 17 for a missing rule, 18 for a buffer that is too short
 pub data Judged (s : Sheet) (z : Sizes) : Call → ℕ → Type 0 where
   shut : {call : Call} → (Opens s → ⊥) → Judged s z call 14
   pins : {cell place : ℕ} → Opens s → cell < cells s → place < places s cell → Judged s z (Pin cell place) 0

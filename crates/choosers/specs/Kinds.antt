@@ -5,14 +5,14 @@ use Rattle.choosers.specs.declared.chooser.Event.TheVariants.{Start, Failed, Sto
 use Rattle.choosers.specs.declared.chooser.Figure.{Figure}
 use Rattle.choosers.specs.Choice.{figure, Open, open?}
 
--- of the first n figures, the first open cell that no open one beats, or 255 if none is open
+-- of the first n cells the open one that is left, where each open cell, in order, takes the place of the one before if it beats that; 255 if none is open
 abbrev pub pick : (Figure → Figure → Bool) → List Figure → ℕ → ℕ
 pick beats fs zero = 255
 pick beats fs (suc n) =
     let b = pick beats fs n in
     cond (open? fs n && (b == 255 || beats (figure fs n) (figure fs b))) n b
 
--- fewer places
+-- the cell of the figure f goes before that of g: it has fewer places
 abbrev pub Fewer : Figure → Figure → Type 0
 Fewer f g = f.places < g.places
 
@@ -20,7 +20,7 @@ Fewer f g = f.places < g.places
 abbrev pub fewer : Figure → Figure → Bool
 fewer f g = nat_lt f.places g.places
 
--- a smaller quotient of places by weighted degree: the quotient by degree 0 is the largest, and two others compare by their cross products
+-- the same by a smaller quotient of places by weighted degree: the quotient by degree 0 is the largest, and two others compare by their cross products
 abbrev pub Lighter : Figure → Figure → Type 0
 Lighter f g = (0 < f.degree) × ((g.degree ≡ 0) ⊎ (f.places * g.degree < g.places * f.degree))
 

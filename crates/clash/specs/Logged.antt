@@ -5,13 +5,13 @@ use Rattle.cores.specs.Core.{Outcome, Outcome.left, Outcome.core, Promise}
 use Rattle.cores.specs.Fit.{Fit}
 use Rattle.clash.specs.declared.fitted.Fitted.{Fitted}
 
--- the lines ls stand from one place to another, and all after them is kept
+-- the lines ls stand in the log from one place to another, and the lines before and after them are as they were
 pub record Wrote (before : List Line) (from to : ℕ) (ls : List Line) (after : List Line) : Type 0 where
   pub upto : to ≡ from + length ls
   pub begins : take to after ≡ take from before ++ ls
   pub keeps : drop to after ≡ drop to before
 
--- the answer to an outcome: no core, with the sets that the first run left; or the core
+-- the answer to an outcome: no core, where `sets` are those that the first run left; or the core
 abbrev pub Answers : {O : Type 0} → Outcome O → Fitted → O → Type 0
 Answers (left o) f sets = (f.core ≡ None) × (o ≡ sets)
 Answers (core c) f sets = f.core ≡ Some c

@@ -9,10 +9,11 @@ pub record Lasting (C : Type 0) : Type 0 where
   pub chooser : C
   pub weights : List ℕ
 
+-- what lasts, of these parts
 abbrev pub lasting : {C : Type 0} → C → List ℕ → Lasting C
 lasting c w = record { chooser = c; weights = w }
 
--- the lines are right, and what may be listed may be listed in part
+-- every line is right, where `fits` says that some filling meets the rules of a set; and of rules that may be listed, any fewer may be listed too
 pub record Laws {S O : Type 0} (ready fits : ℕ → Type 0) (runs : S → Line → O → S → Type 0) : Type 0 where
   pub lawful : Lawful runs fits
   pub part : (a b : ℕ) → Subset a b → ready b → ready a

@@ -27,13 +27,14 @@ module _ {S O : Type 0} (R : S → Line → O → S → Type 0) where
     pub lists : l.listed ≡ a
     pub says : l.verdict ≡ v
 
-  -- after the line l: runs of what the run before used, as long as that was not all that it listed; the rules of the last run are the candidates
+  -- from a run that wrote the line l: runs of what the run before used, as long as that was not all that it listed; the rules of the last run are the candidates
   pub data Shrinks : Line → S → List Line → ℕ → S → Type 0 where
     all : {s : S} {l : Line} → l.used ≡ l.listed → Shrinks l s [] l.listed s
     fewer : {c : ℕ} {s t u : S} {o : O} {l m : Line} {ls : List Line} → l.used ≢ l.listed
         → Gives l.used Unmet s m o t → Shrinks m t ls c u → Shrinks l s (m ∷ ls) c u
 
-  -- the smallest j such that the found rules clash together with the candidates up to the j-th, sought by halving between two bounds until they meet: each middle is a run
+  -- the smallest j such that the found rules clash together with the candidates up to the j-th, sought by halving between two bounds until they meet: each middle is a run.
+  -- Where the rules up to the middle clash, it is the new upper bound (down); otherwise the place after it is the new lower one (up)
   pub data Halves (found : ℕ) (cs : List ℕ) : ℕ → ℕ → S → List Line → ℕ → S → Type 0 where
     met : {lo hi : ℕ} {s : S} → lo ≡ hi → Halves found cs lo hi s [] lo s
     down : {lo hi j : ℕ} {s t u : S} {o : O} {l : Line} {ls : List Line} → lo < hi

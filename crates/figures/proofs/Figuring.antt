@@ -1,10 +1,11 @@
 -- Figures, cell by cell and rule by rule. Assumes nothing.
 use Rattle.std.proofs.Common.{◌≡◌, ℕ, ◌+◌, ◌<◌, ◌≤◌, Bool, true, false, not, ◌&&◌, ◌||◌, eqb, ◌≢◌, List, [], ◌∷◌, ◌++◌, length, get_or, take, set, sym, refl, ap, ◌∙◌, ap₂, inl, inr, arith}
+use Rattle.std.specs.List.{list_any}
 use Rattle.std.proofs.lemmas.List.{take_more, take_all, get_or-set_same, get_or-set_other}
 use Rattle.std.proofs.lemmas.Bool.{cases_eq, eq-eqb, ne_eqb}
 use Rattle.choosers.specs.declared.chooser.Figure.{Figure}
 use Rattle.choosers.specs.Choice.{no_figure}
-use Rattle.runs.specs.Figures.{open?, some?, joins?}
+use Rattle.runs.specs.Figures.{open?, joins?}
 
 or_assoc : (a b c : Bool) → (a || (b || c)) ≡ ((a || b) || c)
 or_assoc true b c = refl
@@ -18,20 +19,20 @@ or_all : (a : Bool) → (a || true) ≡ true
 or_all true = refl
 or_all false = refl
 
-some_push : (p : ℕ → Bool) (xs : List ℕ) (x : ℕ) → some? p (xs ++ x ∷ []) ≡ (some? p xs || p x)
+some_push : (p : ℕ → Bool) (xs : List ℕ) (x : ℕ) → list_any p (xs ++ x ∷ []) ≡ (list_any p xs || p x)
 some_push p [] x = or_none (p x)
-some_push p (y ∷ xs) x = ap (λ (b : Bool). p y || b) (some_push p xs x) ∙ or_assoc (p y) (some? p xs) (p x)
+some_push p (y ∷ xs) x = ap (λ (b : Bool). p y || b) (some_push p xs x) ∙ or_assoc (p y) (list_any p xs) (p x)
 
-some_more : (p : ℕ → Bool) (xs : List ℕ) (i d : ℕ) → i < length xs → some? p (take (i + 1) xs) ≡ (some? p (take i xs) || p (get_or xs i d))
-some_more p xs i d h = ap (some? p) (take_more xs i d h) ∙ some_push p (take i xs) (get_or xs i d)
+some_more : (p : ℕ → Bool) (xs : List ℕ) (i d : ℕ) → i < length xs → list_any p (take (i + 1) xs) ≡ (list_any p (take i xs) || p (get_or xs i d))
+some_more p xs i d h = ap (list_any p) (take_more xs i d h) ∙ some_push p (take i xs) (get_or xs i d)
 
 -- ---- the cells of a rule, one more: it is the cell c, or another
 module _ (sets : List ℕ) (c : ℕ) (cells : List ℕ) (i d : ℕ) (l : i < length cells) (at : d ≡ get_or cells i 255) where
   abbrev Here : ℕ → Bool
-  Here n = some? (λ x. eqb x c) (take n cells)
+  Here n = list_any (λ x. eqb x c) (take n cells)
 
   abbrev Elsewhere : ℕ → Bool
-  Elsewhere n = some? (λ x. not (eqb x c) && open? sets x) (take n cells)
+  Elsewhere n = list_any (λ x. not (eqb x c) && open? sets x) (take n cells)
 
   here_step : (b : Bool) → b ≡ eqb d c → Here (i + 1) ≡ (Here i || b)
   here_step b e = some_more (λ x. eqb x c) cells i 255 l ∙ ap (λ (x : Bool). Here i || x) (sym (e ∙ ap (λ (x : ℕ). eqb x c) at))
@@ -54,12 +55,12 @@ module _ (sets : List ℕ) (c : ℕ) (cells : List ℕ) (i d : ℕ) (l : i < len
         t ∙ ap₂ (λ (x y : Bool). x || y) r refl ∙ sym (elsewhere_step o (u ∙ ap (λ (x : Bool). not x && open? sets d) (sym k))),
       )
 
-pub joins_is : (sets : List ℕ) (c : ℕ) (cells : List ℕ) (n : ℕ) (h e r : Bool) → length cells ≤ n → h ≡ some? (λ x. eqb x c) (take n cells)
-    → e ≡ some? (λ x. not (eqb x c) && open? sets x) (take n cells) → r ≡ (h && e) → r ≡ joins? sets c cells
+pub joins_is : (sets : List ℕ) (c : ℕ) (cells : List ℕ) (n : ℕ) (h e r : Bool) → length cells ≤ n → h ≡ list_any (λ x. eqb x c) (take n cells)
+    → e ≡ list_any (λ x. not (eqb x c) && open? sets x) (take n cells) → r ≡ (h && e) → r ≡ joins? sets c cells
 joins_is sets c cells n h e r l p q s =
     s
-    ∙ ap₂ (λ (x y : Bool). x && y) (p ∙ ap (some? (λ x. eqb x c)) (take_all n cells l))
-    (q ∙ ap (some? (λ x. not (eqb x c) && open? sets x)) (take_all n cells l))
+    ∙ ap₂ (λ (x y : Bool). x && y) (p ∙ ap (list_any (λ x. eqb x c)) (take_all n cells l))
+    (q ∙ ap (list_any (λ x. not (eqb x c) && open? sets x)) (take_all n cells l))
 
 -- ---- the figures, one cell more, and all of them
 pub figures_more : (f : ℕ → Figure) (xs : List Figure) (i : ℕ) (x : Figure) → i < length xs → x ≡ f i → ((k : ℕ) → k < i → get_or xs k no_figure ≡ f k)

@@ -3,7 +3,7 @@ use Rattle.std.proofs.Common.{◌≡◌, ℕ, ◌<◌, List, length, get_or, sym
 use Rattle.std.proofs.lemmas.List.{ext_get_or}
 use Rattle.bits.specs.Sets.{In}
 use Rattle.bits.proofs.Bits.{has_zero}
-use Rattle.calls.specs.Runs.{Alone}
+use Rattle.runs.specs.Law.{Alone}
 use Rattle.session.specs.Pins.{LowestByte}
 
 -- where the sets hold one place a cell, their lowest places are these

@@ -8,10 +8,10 @@ use Rattle.choosers.specs.declared.last_conflict.LastConflict.{LastConflict}
 use Rattle.runs.specs.declared.line.Line.{Line}
 use Rattle.runs.specs.declared.line.Verdict.TheVariants.{Met, Unmet}
 use Rattle.runs.specs.Run.{Run}
-use Rattle.runs.specs.Law.{Right, Fills}
+use Rattle.runs.specs.Law.{Right, Fills, Alone}
 use Rattle.calls.specs.Sheet.{Sheet, sheet, Checked, Opens}
 use Rattle.calls.specs.History.{on_after}
-use Rattle.calls.specs.Runs.{start_after, Alone}
+use Rattle.calls.specs.Runs.{start_after}
 use Rattle.sheets.specs.declared.fault.LoadFault.{LoadFault}
 use Rattle.sheets.specs.Faults.{number, offset}
 use Rattle.sheets.specs.Sheet.{Sheet as Stated}

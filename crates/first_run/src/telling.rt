@@ -2,7 +2,7 @@
 ghost use Rattle.std.specs.Prelude.{◌≡◌, ℕ, ◌<◌, List, ◌++◌, length, IfOk, OnOk, slice_index, string_bytes};
 ghost use Rattle.bits.specs.Sets.{members};
 ghost use Rattle.runs.specs.declared.line.Verdict.TheVariants.{Met};
-ghost use Rattle.calls.specs.Runs.{Alone};
+ghost use Rattle.runs.specs.Law.{Alone};
 ghost use Rattle.session.specs.Pins.{LowestByte};
 ghost use Rattle.first_run.specs.FirstRun.{Found, Told};
 

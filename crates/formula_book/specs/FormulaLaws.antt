@@ -1,4 +1,5 @@
--- Well-formed stores keep the laws of a rule book. Assumes nothing.
+-- Proofs that well-formed stores keep the laws of a rule book. Assumes nothing.
+-- They stand in specs/ since the laws of a type may cite nothing else of its own crate. The check proves them, so no reader has to believe them.
 use Rattle.std.specs.Prelude.{◌≡◌, ℕ, suc, ◌<◌, List, length, get_or, slice_index, slice_index_or}
 use Rattle.std.proofs.Common.{sym, ap, ◌∙◌, ⊎_elim, arith}
 use Rattle.std.proofs.Math.Logic.{∥∥₁_elim}
@@ -13,9 +14,11 @@ use Rattle.reader.specs.declared.formula.Formula.{Formula}
 use Rattle.formula_book.specs.Trees.{grounded}
 use Rattle.formula_book.specs.Formulas.{Lists, Fit, WellFormed, cells_of, rule_of, formula_book, no_formula}
 
+-- a stored formula has as many cells as its width says
 pub width_of : (f : Formula) → length (cells_of f) ≡ f.width
 width_of f = length-map-range_with_len (λ k. slice_index f.cells k) 0 f.width
 
+-- they are the first of its stored cells
 pub cell_of : (f : Formula) (k d : ℕ) → k < f.width → slice_index_or (cells_of f) k d ≡ slice_index f.cells k
 cell_of f k d h = get_or-map-range_with_len (λ j. slice_index f.cells j) 0 f.width k k d h (omega arith)
 
@@ -37,6 +40,7 @@ well_formed {ns} {fs} ok = record {
       };
 }
 
+-- they are good where the formula is fit
 sound : (l : Lists) (ns : List Node) (f : Formula) → Fit ns f → Sound (rule_of l ns f)
 sound l ns f fit =
     let w = width_of f in
@@ -52,6 +56,7 @@ sound l ns f fit =
           fit.good.apart j k lt m' (sym (cell_of f j 255 n') ∙ e ∙ cell_of f k 255 m');
     }
 
+-- the book of well-formed stores is lawful
 pub formula_lawful : (l : Lists) (ns : List Node) (fs : List Formula) → ∥ WellFormed ns fs ∥₁ → Lawful (formula_book l ns fs)
 formula_lawful l ns fs ok = record {
   bounded = (well_formed ok).few;

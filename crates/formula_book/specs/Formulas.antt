@@ -10,7 +10,7 @@ use Rattle.reader.specs.declared.formula.Formula.{Formula}
 use Rattle.judge.specs.Trees.{tree}
 use Rattle.formula_book.specs.Trees.{grounded}
 
--- a formula that is missing
+-- what stands for a missing formula: it has no cells, and node 0 as its root
 abbrev pub no_formula : Formula
 no_formula = record { root = 0; width = 0; cells = [] }
 
@@ -29,34 +29,34 @@ assigned l f [] row = f
 assigned l f (c ∷ cs) [] = f
 assigned l f (c ∷ cs) (v ∷ vs) = assigned l (slice_set f c (number_at l c v)) cs vs
 
--- no number is set yet
+-- the numbers before any is set: 0 for each of 64 cells
 abbrev pub unset : List ℤ
 unset = replicate 64 (pos 0)
 
--- the row has one place for each cell, each of its cell's list
+-- the row has one place for each cell, and each is of its cell's list
 abbrev pub listed : Lists → List ℕ → List ℕ → Bool
 listed l [] [] = true
 listed l [] (v ∷ vs) = false
 listed l (c ∷ cs) [] = false
 listed l (c ∷ cs) (v ∷ vs) = nat_lt v (slice_index l.lengths c) && listed l cs vs
 
--- a formula's cells in order
+-- the cells of a stored formula, in order
 abbrev pub cells_of : Formula → List ℕ
 cells_of f = map (λ k. slice_index f.cells k) (range_with_len 0 f.width)
 
--- it permits the rows of listed places at whose numbers the formula is true
+-- a stored formula permits the rows of listed places at whose numbers it is true
 abbrev pub permits_of : Lists → List Node → Formula → List ℕ → Bool
 permits_of l ns f row = listed l (cells_of f) row && truth (assigned l unset (cells_of f) row) (tree (suc f.root) ns f.root)
 
--- a stored formula as a rule
+-- what a stored formula means
 abbrev pub rule_of : Lists → List Node → Formula → Rule
 rule_of l ns f = record { cells = cells_of f; permits = permits_of l ns f }
 
--- the stores as a book
+-- what the stores mean: a rule for each stored formula, in order
 abbrev pub formula_book : Lists → List Node → List Formula → BookMeaning
 formula_book l ns fs = record { count = length fs; rule = λ r. rule_of l ns (slice_index_or fs r no_formula) }
 
--- a rule permits the rows of listed places at whose numbers a condition is true
+-- the rule permits the rows of listed places at whose numbers the condition c is true
 abbrev pub MeansCondition : Lists → Condition → Rule → Type 0
 MeansCondition l c rule = (row : List ℕ) → rule.permits row ≡ (listed l rule.cells row && truth (assigned l unset rule.cells row) c)
 

@@ -3,6 +3,7 @@ use Rattle.std.specs.Prelude.{ℕ, ◌<◌, ◌↔◌, List, ℤ, slice_index}
 use Rattle.network.specs.Tries.{Allowed}
 use Rattle.formula_book.specs.Formulas.{Lists}
 
+-- the lists of these lengths and these numbers
 abbrev pub lists_of : List ℕ → List ℤ → Lists
 lists_of lengths numbers = record { lengths = lengths; numbers = numbers }
 

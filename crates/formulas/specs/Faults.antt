@@ -16,6 +16,7 @@ abbrev pub next : List ℕ → ℕ
 next [] = 256
 next (b ∷ s) = b
 
+-- the byte is a digit, 0 to 9
 abbrev pub Digit : ℕ → Type 0
 Digit b = (48 ≤ b) × (b ≤ 57)
 
@@ -48,10 +49,11 @@ pub record TooDeep (s : List ℕ) (k : ℕ) : Type 0 where
   pub begins : Begins (take k s)
   pub full : level (take before s) ≡ 16
 
+-- no digit stands right before the place k
 abbrev pub NoDigitBefore : List ℕ → ℕ → Type 0
 NoDigitBefore s k = (j : ℕ) → k ≡ j + 1 → Digit (next (drop j s)) → ⊥
 
--- a cell that is not there, or digits above 1,000,000; the minus of a number belongs to them
+-- a cell that is not there, as C and its number; or digits above 1,000,000, with a number's minus, if any, and no digit right before them
 pub data Oversize (cells : ℕ) (s : List ℕ) (k : ℕ) : List ℕ → Type 0 where
   cell : {n : ℕ} → cells ≤ n → Oversize cells s k (67 ∷ numeral n)
   digits : {n : ℕ} → 1000000 < n → NoDigitBefore s k → Oversize cells s k (numeral n)
@@ -71,13 +73,15 @@ pub record Miscounted (s : List ℕ) (k : ℕ) : Type 0 where
   pub said : s ≡ text formula
   pub wrong : (length (cells_of formula) ≡ 0) ⊎ (4 < length (cells_of formula))
 
+-- the text has this fault at the offset k
 abbrev pub Fault : ℕ → List ℕ → Flaw → ℕ → Type 0
 Fault cells s Grammar k = Outside s k
 Fault cells s Level k = TooDeep s k
 Fault cells s Range k = TooLarge cells s k
 Fault cells s Cells k = Miscounted s k
 
--- faults come in the order of their offsets, at one offset 7 first; 9 comes after the last byte
+-- a fault at k comes before another at j, or is the same: they come in the order of their offsets, at one offset 7 is the first, and 9 comes after all
+-- others, since it is found after the last byte
 abbrev pub Precedes : Flaw → ℕ → Flaw → ℕ → Type 0
 Precedes Grammar k Grammar j = k ≤ j
 Precedes Grammar k Level j = k < j
@@ -101,7 +105,7 @@ pub record First (cells : ℕ) (s : List ℕ) (f : Flaw) (k : ℕ) : Type 0 wher
   pub here : Fault cells s f k
   pub first : (g : Flaw) (j : ℕ) → Fault cells s g j → Precedes f k g j
 
--- the text is that of the condition, under the limits
+-- the text is that of the condition, under the limits: its cells and digits are known, 16 levels at most, and 1 to 4 different cells
 pub record Accepted (cells : ℕ) (s : List ℕ) (c : Condition) : Type 0 where
   pub said : s ≡ text c
   pub known : Known cells c

@@ -4,7 +4,7 @@ use Rattle.formulas.specs.declared.node.Node.{Node}
 use Rattle.formulas.specs.declared.node.Node.TheVariants.{Free, Compare, Not, And, Or}
 use Rattle.formulas.specs.Tree.{Condition, compares, negates, all, any, Conditions, one, more}
 
--- how many nodes a tree takes; a list of one condition takes none of its own
+-- how many nodes a tree takes
 abbrev mutual
   pub size : Condition → ℕ
   size (compares a o b) = 1
@@ -12,6 +12,7 @@ abbrev mutual
   size (all cs) = list_size cs
   size (any cs) = list_size cs
 
+  -- how many a list takes; a list of one condition takes none of its own
   pub list_size : Conditions → ℕ
   list_size (one c) = size c
   list_size (more c cs) = size c + list_size cs + 1
@@ -24,6 +25,7 @@ abbrev mutual
   layout n (all cs) = list_layout And n cs
   layout n (any cs) = list_layout Or n cs
 
+  -- those of a list, where `joins` makes the node that joins a condition and the rest of the list
   pub list_layout : (ℕ → ℕ → Node) → ℕ → Conditions → List Node
   list_layout joins n (one c) = layout n c
   list_layout joins n (more c cs) =
@@ -41,11 +43,12 @@ abbrev mutual
   Stands ns i (all cs) = StandsAll And ns i cs
   Stands ns i (any cs) = StandsAll Or ns i cs
 
+  -- the same of a list, where `joins` makes the nodes that join its conditions
   pub StandsAll : (ℕ → ℕ → Node) → List Node → ℕ → Conditions → Type 0
   StandsAll joins ns i (one c) = Stands ns i c
   StandsAll joins ns i (more c cs) = (j : ℕ) × (k : ℕ) × (j < i) × (k < i) × (slice_index_or ns i Free ≡ joins j k) × Stands ns j c × StandsAll joins ns k cs
 
--- some condition stands there
+-- some condition stands at node i of the store
 pub record Standing (ns : List Node) (i : ℕ) : Type 0 where
   pub is : Condition
   pub stands : Stands ns i is

@@ -1,4 +1,4 @@
--- The words of the readers' own contracts. Assumes nothing.
+-- What the readers of a text promise each other: where a word ends, what is awaited at a place, and that no fault came before. Assumes nothing.
 use Rattle.std.specs.Prelude.{◌≡◌, ℕ, ◌+◌, ◌<◌, ◌≤◌, Bool, true, ◌≢◌, List, [], ◌∷◌, ◌++◌, length, take, drop}
 use Rattle.formulas.specs.declared.node.Shift.{Shift}
 use Rattle.formulas.specs.declared.node.Shift.TheVariants.{Bare, Plus, Minus}
@@ -15,12 +15,13 @@ pub record Spans (s : List ℕ) (at : ℕ) (w : List ℕ) (end : ℕ) : Type 0 w
   pub within : end ≤ length s
   pub said : drop at s ≡ w ++ drop end s
 
--- with the byte b next, a shift, a side or a condition ends here and does not go on with b
+-- with the byte b next, a shift ends here and does not go on with b
 abbrev pub EndsShift : Shift → ℕ → Type 0
 EndsShift Bare b = (Digit b → ⊥) × (b ≢ 43) × (b ≢ 45)
 EndsShift (Plus n) b = Digit b → ⊥
 EndsShift (Minus n) b = Digit b → ⊥
 
+-- the same of a side
 abbrev pub EndsSide : Side → ℕ → Type 0
 EndsSide (Number z) b = Digit b → ⊥
 EndsSide (Cell c h) b = EndsShift h b
@@ -34,6 +35,7 @@ EndsRelation LessEqual b = Unit {0}
 EndsRelation Greater b = b ≢ 61
 EndsRelation GreaterEqual b = Unit {0}
 
+-- the same of a condition
 abbrev pub Ends : Condition → ℕ → Type 0
 Ends (compares a o b) n = EndsSide b n
 Ends (negates c) n = Unit {0}
@@ -67,12 +69,13 @@ pub record AwaitsList (o : List Bool) (p : List ℕ) : Type 0 where
   pub comes : (d : Condition) (u : List ℕ) → text d ≡ p ++ u → (cs : Conditions) × (t : List ℕ) × (u ≡ list_text cs ++ (41 ∷ t)) × Follows o t
   pub room : (cs : Conditions) → (d : Condition) × (t : List ℕ) × (text d ≡ p ++ (list_text cs ++ (41 ∷ t)))
 
--- the same of a side, and of digits for a number of at least `low`, at a place of s and with the byte that comes there
+-- the same of a side, at a place of s and with the byte that comes there
 pub record AwaitsSide (s : List ℕ) (at : ℕ) : Type 0 where
   pub fresh : NoDigitBefore s at
   pub comes : (d : Condition) (u : List ℕ) → text d ≡ take at s ++ u → next u ≡ next (drop at s) → (a : Side) × (t : List ℕ) × (u ≡ side_text a ++ t) × EndsShift Bare (next t)
   pub room : (a : Side) → (d : Condition) × (t : List ℕ) × (text d ≡ take at s ++ (side_text a ++ t))
 
+-- the same of digits for a number of at least `low`
 pub record AwaitsDigits (low : ℕ) (s : List ℕ) (at : ℕ) : Type 0 where
   pub comes : (d : Condition) (u : List ℕ) → text d ≡ take at s ++ u → next u ≡ next (drop at s) → (n : ℕ) × (t : List ℕ) × (low ≤ n) × (u ≡ numeral n ++ t) × (Digit (next t) → ⊥)
   pub room : (n : ℕ) → low ≤ n → (d : Condition) × (t : List ℕ) × (text d ≡ take at s ++ (numeral n ++ t))

@@ -8,6 +8,7 @@ use Rattle.formulas.specs.declared.node.Relation.{Relation}
 use Rattle.formulas.specs.declared.node.Relation.TheVariants.{Equal, NotEqual, Less, LessEqual, Greater, GreaterEqual}
 use Rattle.formulas.specs.Tree.{Condition, compares, negates, all, any, Conditions, one, more}
 
+-- a number with what is added to it or taken away
 abbrev pub shifted : ℤ → Shift → ℤ
 shifted z Bare = z
 shifted z (Plus n) = z +ℤ pos n
@@ -25,6 +26,7 @@ same (pos a) (negsuc b) = false
 same (negsuc a) (pos b) = false
 same (negsuc a) (negsuc b) = a == b
 
+-- whether a relation holds between two numbers
 abbrev pub related : Relation → ℤ → ℤ → Bool
 related Equal x y = same x y
 related NotEqual x y = not (same x y)
@@ -33,6 +35,7 @@ related LessEqual x y = int_le x y
 related Greater x y = int_lt y x
 related GreaterEqual x y = int_le y x
 
+-- whether a condition is true at the cells' numbers
 abbrev mutual
   pub truth : List ℤ → Condition → Bool
   truth numbers (compares a o b) = related o (worth numbers a) (worth numbers b)
@@ -40,10 +43,12 @@ abbrev mutual
   truth numbers (all cs) = all_true numbers cs
   truth numbers (any cs) = any_true numbers cs
 
+  -- whether every condition of a list is
   pub all_true : List ℤ → Conditions → Bool
   all_true numbers (one c) = truth numbers c
   all_true numbers (more c cs) = truth numbers c && all_true numbers cs
 
+  -- whether some condition of a list is
   pub any_true : List ℤ → Conditions → Bool
   any_true numbers (one c) = truth numbers c
   any_true numbers (more c cs) = truth numbers c || any_true numbers cs

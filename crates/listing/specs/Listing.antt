@@ -16,6 +16,7 @@ numbered f n (x ∷ xs) = f n x ++ numbered f (n + 1) xs
 abbrev pub cell_line : ℕ → List ℤ → List ℕ
 cell_line c zs = 67 ∷ (numeral c ++ (58 ∷ (flat_map (λ z. 32 ∷ number_text z) zs ++ (10 ∷ []))))
 
+-- what kind of rows a rule stores
 abbrev pub kind_text : Kind → List ℕ
 kind_text Permitted = codes " permitted"
 kind_text Forbidden = codes " forbidden"
@@ -37,10 +38,11 @@ rows_line r x =
 abbrev pub text_line : ℕ → List ℕ → List ℕ
 text_line r t = codes "rule " ++ (numeral r ++ (codes " formula " ++ (t ++ (10 ∷ []))))
 
+-- a rule by a formula
 abbrev pub formula_line : ℕ → Condition → List ℕ
 formula_line r c = text_line r (text c)
 
--- the cells, the rules by rows, and the rules by formulas, a line each
+-- the text of a sheet: its cells, its rules by rows, and its rules by formulas, a line each
 abbrev pub listing_of : Sheet → List ℕ
 listing_of s = numbered cell_line 0 s.lists ++ (numbered rows_line 0 s.rows ++ numbered formula_line (length s.rows) s.formulas)
 
@@ -57,10 +59,11 @@ field_of places rule = record { kind = rule.kind; cells = take rule.width rule.c
 abbrev pub list_in : List ℤ → ℕ → ℕ → List ℤ
 list_in numbers c n = take n (drop (64 * c) numbers)
 
--- the lines of the formulas among some fields of a file, the first of them numbered n
+-- the line of a field if it is a formula's, numbered n, and nothing otherwise
 abbrev pub field_line : ℕ → Field → List ℕ
 field_line n f = cond (f.tag == 3) (text_line n f.content) []
 
+-- the lines of the formulas among some fields of a file, the first formula numbered n
 abbrev pub formula_lines : ℕ → List Field → List ℕ
 formula_lines n [] = []
 formula_lines n (f ∷ fs) = field_line n f ++ formula_lines (cond (f.tag == 3) (n + 1) n) fs

@@ -13,7 +13,7 @@ use Rattle.sheets.proofs.Fields.{byte, same_front}
 use Rattle.sheets.proofs.Wide.{Wide, run, run_length, row_part}
 use Rattle.load.specs.Read.{ReadRows, NoRows}
 use Rattle.network.specs.Cells.{Listed}
-use Rattle.load.specs.Parts.{Headed}
+use Rattle.load.specs.Parts.{Splits}
 
 -- row i of some bytes in rows of width w
 abbrev pub row_at : ℕ → List ℕ → ℕ → List ℕ
@@ -47,12 +47,12 @@ row_joined : (w : ℕ) (rs : List (List ℕ)) (i : ℕ) → Wide w rs → i < le
 row_joined w rs i h l = ap (λ n. take w (drop n (run rs))) (sym (zero-add (i * w))) ∙ row_part w rs 0 [] [] (run rs) h refl (sym (append-nil (run rs))) i l
 
 -- what a headed content has at its front
-pub head_width : (content : List ℕ) (count : ℕ) (kind : Kind) (cells rest : List ℕ) → Headed content count kind cells rest → (get_or content 1 0 ≡ length cells) × (length cells + length rest + 2 ≡ length content)
+pub head_width : (content : List ℕ) (count : ℕ) (kind : Kind) (cells rest : List ℕ) → Splits content count kind cells rest → (get_or content 1 0 ≡ length cells) × (length cells + length rest + 2 ≡ length content)
 head_width content count kind cells rest h = (ap (λ (l : List ℕ). get_or l 1 0) h.said, omega (arith, ap length h.said, length-append cells rest))
 
 -- a good rows rule's content is headed by its parts
 pub good_headed : (content lengths : List ℕ) (lists : List (List ℤ)) (x : RowsField) → map length lists ≡ lengths → GoodRows lists x → content ≡ rows_bytes x
-    → Headed content (length lengths) x.kind x.cells (places_of x)
+    → Splits content (length lengths) x.kind x.cells (places_of x)
 good_headed content lengths lists x e g s = record {
   said = s;
   some = g.some;
@@ -62,18 +62,18 @@ good_headed content lengths lists x e g s = record {
 }
 
 -- the parts are those of the content
-pub parts_same : (content : List ℕ) (n m : ℕ) (k l : Kind) (cs ds rs ts : List ℕ) → Headed content n k cs rs → Headed content m l ds ts → (cs ≡ ds) × (rs ≡ ts)
+pub parts_same : (content : List ℕ) (n m : ℕ) (k l : Kind) (cs ds rs ts : List ℕ) → Splits content n k cs rs → Splits content m l ds ts → (cs ≡ ds) × (rs ≡ ts)
 parts_same content n m k l cs ds rs ts h i =
     let a = byte _ _ _ _ (sym h.said ∙ i.said) in
     let b = byte _ _ _ _ a.1 in
     same_front cs ds rs ts b.0 b.1
 
-pub no_head : (content lengths : List ℕ) (tag : ℕ) → ((kind : Kind) (cells rest : List ℕ) → Headed content (length lengths) kind cells rest → ⊥) → NoRows content lengths tag (RowsFault tag)
+pub no_head : (content lengths : List ℕ) (tag : ℕ) → ((kind : Kind) (cells rest : List ℕ) → Splits content (length lengths) kind cells rest → ⊥) → NoRows content lengths tag (RowsFault tag)
 no_head content lengths tag none = record { fault_is = refl; none = λ lists e x g s. none x.kind x.cells (places_of x) (good_headed content lengths lists x e g s) }
 
 -- what follows the cells of a good rows rule's content
 pub good_rest : (content lengths : List ℕ) (n : ℕ) (kind : Kind) (cells rest : List ℕ) (lists : List (List ℤ)) (x : RowsField)
-    → Headed content n kind cells rest → map length lists ≡ lengths → GoodRows lists x → content ≡ rows_bytes x
+    → Splits content n kind cells rest → map length lists ≡ lengths → GoodRows lists x → content ≡ rows_bytes x
     → (length rest ≡ length x.rows * length cells) × ((i : ℕ) → i < length x.rows → Listed lengths cells (row_at (length cells) rest i))
 good_rest content lengths n kind cells rest lists x h e g s =
     let same = parts_same content n (length lengths) kind x.kind cells x.cells rest (places_of x) h (good_headed content lengths lists x e g s) in
@@ -84,13 +84,13 @@ good_rest content lengths n kind cells rest lists x h e g s =
           (λ k m. subst (λ (z : ℕ). get_or (get_or x.rows i []) k 0 < z) (sym (get_or-map length lists (get_or x.cells k 0) [] 0 (g.known k m)) ∙ ap (λ (l : List ℕ). get_or l (get_or x.cells k 0) 0) e) ((g.rows i l).listed k m))),
     )
 
-pub part_of_row : (content lengths : List ℕ) (n tag : ℕ) (kind : Kind) (cells rest : List ℕ) → Headed content n kind cells rest → (length rest % length cells ≡ 0 → ⊥) → NoRows content lengths tag (RowsFault tag)
+pub part_of_row : (content lengths : List ℕ) (n tag : ℕ) (kind : Kind) (cells rest : List ℕ) → Splits content n kind cells rest → (length rest % length cells ≡ 0 → ⊥) → NoRows content lengths tag (RowsFault tag)
 part_of_row content lengths n tag kind cells rest h part = record {
   fault_is = refl;
   none = λ lists e x g s. part (ap (λ m. m % length cells) (good_rest content lengths n kind cells rest lists x h e g s).0 ∙ mul-mod_left (length x.rows) (length cells));
 }
 
-pub bad_row : (content lengths : List ℕ) (n tag : ℕ) (kind : Kind) (cells rest : List ℕ) → Headed content n kind cells rest
+pub bad_row : (content lengths : List ℕ) (n tag : ℕ) (kind : Kind) (cells rest : List ℕ) → Splits content n kind cells rest
     → (r : Bool) → Decides r ((i : ℕ) → i < length rest / length cells → Listed lengths cells (row_at (length cells) rest i)) → r ≡ false → NoRows content lengths tag (RowsFault tag)
 bad_row content lengths n tag kind cells rest h b d is = record {
   fault_is = refl;
@@ -102,7 +102,7 @@ bad_row content lengths n tag kind cells rest h b d is = record {
 
 -- a content whose parts are good
 pub all_rows : (content lengths : List ℕ) (start : ℕ) (before after : List ℕ) (rule : RowsRule) (kind : Kind) (cells rest : List ℕ) (count : ℕ)
-    → Headed content (length lengths) kind cells rest → length rest ≡ count * length cells → ((i : ℕ) → i < count → Listed lengths cells (row_at (length cells) rest i))
+    → Splits content (length lengths) kind cells rest → length rest ≡ count * length cells → ((i : ℕ) → i < count → Listed lengths cells (row_at (length cells) rest i))
     → rule ≡ record { kind = kind; width = length cells; cells = filled 0 4 cells; start = start; count = count }
     → after ≡ rest ++ drop (length rest) before → ReadRows content lengths start before after rule
 all_rows content lengths start before after rule kind cells rest count h long all is stored = record {

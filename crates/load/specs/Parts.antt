@@ -8,7 +8,7 @@ abbrev pub Known : List ℕ → ℕ → Type 0
 Known cells count = (k : ℕ) → k < length cells → slice_index cells k < count
 
 -- a content begins with a kind, a width and that many good cells
-pub record Headed (content : List ℕ) (count : ℕ) (kind : Kind) (cells rest : List ℕ) : Type 0 where
+pub record Splits (content : List ℕ) (count : ℕ) (kind : Kind) (cells rest : List ℕ) : Type 0 where
   pub said : content ≡ kind_byte kind ∷ length cells ∷ (cells ++ rest)
   pub some : 1 ≤ length cells
   pub few : length cells ≤ 4

@@ -5,7 +5,7 @@ ghost use Rattle.network.specs.Cells.{Listed};
 ghost use Rattle.sheets.specs.Sheet.{kind_byte};
 ghost use Rattle.sheets.specs.Stored.{filled};
 ghost use Rattle.load.specs.Read.{ReadRows, NoRows};
-ghost use Rattle.load.specs.Parts.{Headed, Known};
+ghost use Rattle.load.specs.Parts.{Splits, Known};
 
 use network::cells::{are_good, are_listed};
 use rows::rule::{Kind, RowsRule};
@@ -55,7 +55,7 @@ struct Parts<'a> {
 /// The parts of a content whose kind, width and cells are good, with so many cells in the sheet.
 fn split(content: &[u8], count: usize) -> Option<Parts<'_>>
     requires { count ≤ 64 }
-    ensures { MatchOption result ((kind : Kind) (cells rest : List ℕ) → Headed content.now count kind cells rest → ⊥) (λ p. Headed content.now count p.kind p.cells.now p.rest.now) }
+    ensures { MatchOption result ((kind : Kind) (cells rest : List ℕ) → Splits content.now count kind cells rest → ⊥) (λ p. Splits content.now count p.kind p.cells.now p.rest.now) }
 {
     let [kind, width, rest @ ..] = content else {
         return None;

@@ -1,8 +1,8 @@
 -- What a rule book means, its laws, and when a place has support. Assumes nothing.
-use Rattle.std.specs.Prelude.{◌≡◌, ℕ, ◌+◌, ◌-◌, ◌<◌, ◌≤◌, min, Bool, true, false, cond, ◌&&◌, List, [], reverse, length, get_or, ◌≢◌, nat_lt, slice_index, slice_index_or}
+use Rattle.std.specs.Prelude.{◌≡◌, ℕ, ◌+◌, ◌-◌, ◌<◌, ◌≤◌, min, Bool, true, false, cond, ◌&&◌, List, [], reverse, length, ◌≢◌, nat_lt, slice_index, slice_index_or}
 use Rattle.bits.specs.Sets.{In}
 
--- a rule: the cells that it joins, in order, and which rows it permits; a row has a place for each of these cells, in the same order
+-- a rule: the cells that it joins, in order, and whether it permits a row, which has a place for each of these cells, in the same order
 pub record Rule : Type 0 where
   pub cells : List ℕ
   pub permits : List ℕ → Bool
@@ -12,7 +12,7 @@ pub record BookMeaning : Type 0 where
   pub count : ℕ
   pub rule : ℕ → Rule
 
--- place v remains at cell c; where there is no set for the cell, no place remains
+-- place v, from 0 to 63, remains at cell c; where there is no set for the cell, no place remains
 abbrev pub Remains : List ℕ → ℕ → ℕ → Type 0
 Remains sets c v = (v < 64) × In (slice_index sets c) v
 
@@ -35,10 +35,10 @@ pub record Supported (rule : Rule) (i v : ℕ) (sets : List ℕ) : Type 0 where
   pub wide : length row ≡ length rule.cells
   pub within : i < length rule.cells
   pub permitted : rule.permits row ≡ true
-  pub here : get_or row i 64 ≡ v
+  pub here : slice_index_or row i 64 ≡ v
   pub remain : (k : ℕ) → k < length rule.cells → Remains sets (slice_index_or rule.cells k 255) (slice_index_or row k 64)
 
--- a rule that is missing
+-- what stands for a missing rule: it has no cells, and permits no row
 abbrev pub no_rule : Rule
 no_rule = record { cells = []; permits = λ _. false }
 
@@ -53,13 +53,13 @@ joined m n = record {
 abbrev pub reversed : Rule → Rule
 reversed rule = record { cells = reverse rule.cells; permits = λ row. rule.permits (reverse row) }
 
--- each rule that is flagged is reversed
+-- the book below, where each rule that is flagged is reversed
 abbrev pub turned : (ℕ → Bool) → BookMeaning → BookMeaning
 turned flag m = record {
   count = m.count;
   rule = λ r. cond (flag r) (reversed (m.rule r)) (m.rule r);
 }
 
--- the flags of the rules 0 to 63; no later rule has one
+-- whether the rule r is flagged: the rules 0 to 63 have flags, and no later one
 abbrev pub flag_at : List Bool → ℕ → Bool
 flag_at flags r = nat_lt r 64 && slice_index_or flags r false

@@ -1,4 +1,5 @@
--- The joined and the turned book keep the laws. Assumes nothing.
+-- Proofs that the joined and the turned book keep the laws of books. Assumes nothing.
+-- They stand in specs/ since the laws of a type may cite nothing else of its own crate. The check proves them, so no reader has to believe them.
 use Rattle.std.specs.Prelude.{◌≡◌, ℕ, ◌-◌, ◌<◌, ◌≤◌, Bool, [], reverse, length, nat_lt, slice_index_or, refl}
 use Rattle.std.proofs.Common.{sym, ap, ◌∙◌, arith}
 use Rattle.std.proofs.lemmas.List.{length-reverse, get_or-reverse}
@@ -6,6 +7,7 @@ use Rattle.std.proofs.lemmas.Bool.{cond_both, ltb-true, ltb-false}
 use Rattle.network.specs.Book.{Rule, BookMeaning, Lawful, Sound, joined, turned, reversed, no_rule}
 
 module _ {m n : BookMeaning} (p : Lawful m) (q : Lawful n) where
+  -- the joined book of two lawful books is lawful
   pub joined_lawful : Lawful (joined m n)
   joined_lawful = record {
     bounded = omega arith;
@@ -25,10 +27,11 @@ module _ {m n : BookMeaning} (p : Lawful m) (q : Lawful n) where
         (λ f. refl));
   }
 
--- a cell of a reversed rule
+-- the cell at a position of a reversed rule is the one at the same distance from the end
 pub reversed_at : (rule : Rule) (k : ℕ) → k < length rule.cells → slice_index_or (reversed rule).cells k 255 ≡ slice_index_or rule.cells (length rule.cells - 1 - k) 255
 reversed_at rule k h = get_or-reverse rule.cells k 255 h
 
+-- the cells of a reversed rule are as good as those of the rule
 reversed_sound : {rule : Rule} → Sound rule → Sound (reversed rule)
 reversed_sound {rule} s = record {
   some = rw length-reverse s.some;
@@ -42,6 +45,7 @@ reversed_sound {rule} s = record {
       (sym (reversed_at rule k h') ∙ sym e ∙ reversed_at rule j (omega arith));
 }
 
+-- the turned book of a lawful book is lawful, whatever the flags
 pub turned_lawful : (flag : ℕ → Bool) {m : BookMeaning} → Lawful m → Lawful (turned flag m)
 turned_lawful flag {m} p = record {
   bounded = p.bounded;

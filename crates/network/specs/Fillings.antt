@@ -3,7 +3,7 @@ use Rattle.std.specs.Prelude.{◌≡◌, ℕ, ◌<◌, true, List, map, length, 
 use Rattle.bits.specs.Sets.{In}
 use Rattle.network.specs.Book.{Rule, BookMeaning, Remains}
 
--- the row that a filling gives to a rule: a filling has one place for each cell
+-- the row that a filling gives to a rule: the filling's place of each of the rule's cells, in their order
 abbrev pub row_of : Rule → List ℕ → List ℕ
 row_of rule f = map (λ c. slice_index f c) rule.cells
 

@@ -3,11 +3,11 @@ use Rattle.std.specs.Prelude.{◌≡◌, ℕ, ◌<◌, ◌≤◌, ◌↔◌, Lis
 use Rattle.bits.specs.Sets.{In}
 use Rattle.network.specs.Book.{Remains}
 
--- the place is in the mask of the position
+-- place v is in the mask of the position k
 abbrev pub Allowed : List ℕ → ℕ → ℕ → Type 0
 Allowed masks k v = (v < 64) × In (slice_index masks k) v
 
--- the masks allow what remains, and at position i place v alone
+-- the masks of four positions allow what remains at the cells there, and at position i place v alone
 abbrev pub Allows : List ℕ → ℕ → ℕ → List ℕ → List ℕ → Type 0
 Allows cells i v sets masks =
     (k : ℕ) → k < 4 → (w : ℕ) → Allowed masks k w ↔ Remains sets (slice_index cells k) w × (k ≡ i → w ≡ v)

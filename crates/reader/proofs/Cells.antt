@@ -1,5 +1,5 @@
 -- Cells noted one by one. Assumes nothing.
-use Rattle.std.proofs.Common.{◌≡◌, ℕ, suc, ◌+◌, ◌-◌, ◌<◌, ◌≤◌, Bool, true, false, cond, ◌||◌, ◌==◌, ◌≢◌, List, [], ◌∷◌, ◌++◌, length, get_or, take, drop, set, replicate, sym, refl, ap, ◌∙◌, subst, ⊎_elim, append_assoc, append-nil, arith, length-append}
+use Rattle.std.proofs.Common.{◌≡◌, ℕ, suc, ◌+◌, ◌-◌, ◌<◌, ◌≤◌, true, false, cond, ◌||◌, ◌==◌, ◌≢◌, List, [], ◌∷◌, ◌++◌, length, get_or, take, drop, set, replicate, sym, refl, ap, ◌∙◌, subst, ⊎_elim, append_assoc, append-nil, arith, length-append}
 use Rattle.std.specs.List.{list_any}
 use Rattle.std.proofs.lemmas.List.{take_at, set-append_right, take_more, take-append-drop}
 use Rattle.std.proofs.lemmas.Bool.{cases_eq, eq-eqb, ne_eqb, cond_both, cond-true, cond-false}
@@ -40,11 +40,7 @@ eqb-comm a b = ⊎_elim (λ e. eq-eqb a b e ∙ sym (eq-eqb b a (sym e))) (λ n.
 -- the test of `contains` is `among`
 pub contains_among : (c : ℕ) (xs : List ℕ) → list_any (λ y. y == c) xs ≡ among c xs
 contains_among c [] = refl
-contains_among c (x ∷ xs) = ap (λ b. b || list_any (λ y. y == c) xs) (eqb-comm x c) ∙ ap (λ b. (c == x) || b) (contains_among c xs) ∙ or_cond (c == x) (among c xs)
-  where
-    or_cond : (a b : Bool) → (a || b) ≡ cond a true b
-    or_cond true b = refl
-    or_cond false b = refl
+contains_among c (x ∷ xs) = ap (λ b. b || list_any (λ y. y == c) xs) (eqb-comm x c) ∙ ap (λ b. (c == x) || b) (contains_among c xs)
 
 -- cells noted stay noted
 pub longer : (seen xs : List ℕ) → length seen ≤ length (noted seen xs)

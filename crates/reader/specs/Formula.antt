@@ -26,11 +26,12 @@ pub record Fits (s : List ℕ) (nodes : List Node) (n : ℕ) : Type 0 where
   pub few : length nodes ≤ 32768
   pub room : n + length s ≤ length nodes
 
--- the number of each case, and its byte of the formula
+-- the number that stands for each case
 abbrev pub number : Unread → ℕ
 number NoRoom = 10
 number (Fault e) = flaw_number e.flaw
 
+-- its byte of the formula, 0 where there is no room
 abbrev pub offset : Unread → ℕ
 offset NoRoom = 0
 offset (Fault e) = e.offset

@@ -23,7 +23,7 @@ outside k = record { flaw = Grammar; offset = k }
 abbrev pub Opener : List ℕ → Type 0
 Opener w = (w ≡ not_word) ⊎ ((w ≡ and_word) ⊎ (w ≡ or_word))
 
--- the word w is spelled up to the offset, and not on
+-- the word w is spelled up to the offset of the fault, where another byte stands
 pub record Misspelled (s : List ℕ) (at : ℕ) (w : List ℕ) (e : FormulaFault) : Type 0 where
   pub flaw : e.flaw ≡ Grammar
   pub seen : ℕ
@@ -31,7 +31,7 @@ pub record Misspelled (s : List ℕ) (at : ℕ) (w : List ℕ) (e : FormulaFault
   pub spells : Spans s at (take seen w) e.offset
   pub wrong : next (drop e.offset s) ≢ slice_index w seen
 
--- or it is spelled to its end, and its bracket would open level 17
+-- the word is not spelled; or it is to its end, and its bracket would open level 17
 abbrev pub NotOpened : List ℕ → ℕ → List ℕ → ℕ → FormulaFault → Type 0
 NotOpened s at w level e = Misspelled s at w e ⊎ ((e.flaw ≡ Level) × Spans s at w e.offset × (level ≡ 16))
 
@@ -49,6 +49,7 @@ pub record ReadOne (a : Nested) (old new : Store) (b : Cursor) : Type 0 where
   pub nodes : new.nodes.now ≡ stored old.nodes.now old.used (layout old.used is)
   pub count : new.used ≡ old.used + size is
 
+-- the node that joins a condition and the rest of its list
 abbrev pub joiner : Join → ℕ → ℕ → Node
 joiner All = And
 joiner Any = Or

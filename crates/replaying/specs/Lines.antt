@@ -28,29 +28,32 @@ load_line e = codes "load " ++ (numeral (number e) ++ (32 ∷ (layer_text (layer
 abbrev pub not_understood : ℕ → List ℕ
 not_understood n = codes "line " ++ (numeral n ++ (codes " not understood" ++ (10 ∷ [])))
 
--- the words for a call that was answered by a number; a Fit is only if it was refused
+-- the words for a call that is answered by a number, as a Fit is only where it was refused
 abbrev pub call_text : Call → List ℕ
 call_text (Pin cell place) = codes "pin"
 call_text (Free cell) = codes "free"
 call_text (Switch rule on) = codes "switch"
 call_text Fit = codes "fit refused"
 
+-- the words for a call, and its number
 abbrev pub call_line : Call → ℕ → List ℕ
 call_line call n = call_text call ++ (32 ∷ (numeral n ++ (10 ∷ [])))
 
--- fit, the verdict, how many lines, and the core
+-- the verdict of a Fit: 0 at a filling, 1 at a core
 abbrev pub verdict_of : Option ℕ → ℕ
 verdict_of None = 0
 verdict_of (Some core) = 1
 
+-- fit, the verdict, how many lines, and the core
 abbrev pub fit_line : Values → List ℕ
 fit_line f = codes "fit " ++ (numeral (verdict_of f.core) ++ (32 ∷ (numeral f.lines ++ (32 ∷ (set_text (unwrap_or f.core 0) ++ (10 ∷ []))))))
 
--- a Fit that was done: what it came to, its filling if there is one, and its log
+-- the line of a filling, if there is one
 abbrev pub filling_text : Option ℕ → List ℕ → List ℕ
 filling_text None places = numbers_line (codes "filling") places
 filling_text (Some core) places = []
 
+-- a Fit that was done: what it came to, its filling if there is one, and its log
 abbrev pub fitted_text : ℕ → Step → Values → List ℕ
 fitted_text cells a f = fit_line f ++ (filling_text f.core (take cells (vec_items a.buffers.filling)) ++ flat_map log_line (lines_of a f))
 

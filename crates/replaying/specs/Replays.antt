@@ -26,6 +26,7 @@ stays Blank = true
 stays (Call call) = true
 stays NotUnderstood = true
 
+-- no line of these begins a session
 abbrev pub AllStay : List Line → Type 0
 AllStay ls = AllByRecursion (λ l. stays l ≡ true) ls
 

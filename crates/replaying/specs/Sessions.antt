@@ -16,13 +16,14 @@ use Rattle.script.specs.declared.line.Line.{Line}
 use Rattle.script.specs.declared.line.Line.TheVariants.{Blank, Call as CallLine, Turn, NotUnderstood}
 use Rattle.replaying.specs.Lines.{open_line, not_understood, answer_text}
 
--- the calls among some lines, in order
+-- the call of a line, if it is one
 abbrev pub call_of : Line → Option Call
 call_of (CallLine call) = Some call
 call_of Blank = None
 call_of (Turn flags) = None
 call_of NotUnderstood = None
 
+-- the calls among some lines, in order
 abbrev pub calls_of : List Line → List Call
 calls_of ls = filter_map call_of ls
 

@@ -42,7 +42,7 @@ pub fn push_fits(
     numbers: &[i32],
     filling: &[u8],
 ) -> Result<(), AllocError>
-    ensures { OnOk result (string_bytes out.new ≡ string_bytes out.old ++ fits_text lines cells (λ c. get_or numbers.now (64 * c + slice_index filling.now c) (pos 0))) }
+    ensures { OnOk result (string_bytes out.new ≡ string_bytes out.old ++ fits_text lines cells (λ c. slice_index_or numbers.now (64 * c + slice_index filling.now c) (pos 0))) }
 {
     writeln!(out, "FITS {lines}")?;
     for cell in 0..cells {

@@ -8,11 +8,11 @@ use Rattle.rows.specs.declared.rule.Kind.{Kind}
 use Rattle.rows.specs.declared.rule.Kind.TheVariants.{Permitted, Forbidden}
 use Rattle.rows.specs.declared.rule.RowsRule.{RowsRule}
 
--- a rule that is missing
+-- what stands for a missing rule: it has no cells, and stores no row
 abbrev pub no_rows : RowsRule
 no_rows = record { kind = Permitted; width = 0; cells = []; start = 0; count = 0 }
 
--- good cells, and rows that end within so many bytes
+-- the cells of the rule are good, and its rows end within so many bytes
 pub record Fit (rule : RowsRule) (bytes : ℕ) : Type 0 where
   pub good : GoodCells rule.width rule.cells
   pub inside : rule.start + rule.count * rule.width ≤ bytes
@@ -49,14 +49,14 @@ abbrev pub permits_of : Kind → List ℕ → RowsRule → List ℕ → Bool
 permits_of Permitted bytes rule row = stores bytes rule row
 permits_of Forbidden bytes rule row = length row == rule.width && not (stores bytes rule row)
 
--- a stored rule as a rule
+-- what a stored rule means
 abbrev pub rule_of : List ℕ → RowsRule → Rule
 rule_of bytes rule = record {
   cells = map (λ k. slice_index rule.cells k) (range_with_len 0 rule.width);
   permits = permits_of rule.kind bytes rule;
 }
 
--- the stores as a book
+-- what the stores mean: a rule for each stored one, in order
 abbrev pub rows_book : List RowsRule → List ℕ → BookMeaning
 rows_book rules bytes = record {
   count = length rules;

@@ -1,4 +1,5 @@
--- Well-formed stores keep the laws of a rule book. Assumes nothing.
+-- Proofs that well-formed stores keep the laws of a rule book. Assumes nothing.
+-- They stand in specs/ since the laws of a type may cite nothing else of its own crate. The check proves them, so no reader has to believe them.
 use Rattle.std.specs.Prelude.{◌≡◌, ℕ, ◌<◌, List, length, slice_index, slice_index_or}
 use Rattle.std.proofs.Common.{sym, ap, ◌∙◌, arith}
 use Rattle.std.proofs.Math.Logic.{∥∥₁_elim}
@@ -27,12 +28,15 @@ well_formed ok = record {
 }
 
 module _ (bytes : List ℕ) (rule : RowsRule) where
+  -- a stored rule has as many cells as its width says
   pub width_of : length (rule_of bytes rule).cells ≡ rule.width
   width_of = length-map-range_with_len (λ k. slice_index rule.cells k) 0 rule.width
 
+  -- they are the first of its stored cells
   pub cell_of : (k d : ℕ) → k < rule.width → slice_index_or (rule_of bytes rule).cells k d ≡ slice_index rule.cells k
   cell_of k d h = get_or-map-range_with_len (λ j. slice_index rule.cells j) 0 rule.width k k d h (omega arith)
 
+  -- they are good where the stored ones are
   sound : GoodCells rule.width rule.cells → Sound (rule_of bytes rule)
   sound good = record {
     some = rw width_of good.some;
@@ -46,6 +50,7 @@ module _ (bytes : List ℕ) (rule : RowsRule) where
         good.apart j k lt h' (sym (cell_of j 255 l') ∙ e ∙ cell_of k 255 h');
   }
 
+-- the book of well-formed stores is lawful
 pub rows_lawful : (rules : List RowsRule) (bytes : List ℕ) → ∥ WellFormed rules bytes ∥₁ → Lawful (rows_book rules bytes)
 rows_lawful rules bytes ok = record {
   bounded = (well_formed ok).few;

@@ -3,11 +3,11 @@ use Rattle.std.specs.Prelude.{ℕ, zero, suc, ◌*◌, ◌<◌, List, length, ta
 use Rattle.bits.specs.Sets.{size}
 use Rattle.network.specs.Tries.{Tried}
 
--- row j of some rows, one after another, of n places each
+-- row j of some rows of n places each, which stand one after another
 abbrev pub row_in : ℕ → List ℕ → ℕ → List ℕ
 row_in n rows j = take n (drop (j * n) rows)
 
--- a row with an allowed place at each position that is none of the first n of some rows
+-- some row has an allowed place at each position, and is none of the first n of some rows
 pub record Unstored (n : ℕ) (rows masks : List ℕ) : Type 0 where
   pub row : List ℕ
   pub tried : Tried masks row

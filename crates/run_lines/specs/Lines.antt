@@ -7,7 +7,7 @@ use Rattle.formulas.specs.Tree.{numeral}
 use Rattle.runs.specs.declared.line.Line.{Line}
 use Rattle.runs.specs.Verdict.{number_of as verdict_number}
 
--- two hex digits of a byte
+-- the two hex digits of a byte
 abbrev pub byte_text : ℕ → List ℕ
 byte_text b = digit_glyph false (b / 16) ∷ digit_glyph false (b % 16) ∷ []
 

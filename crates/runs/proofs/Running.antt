@@ -161,11 +161,13 @@ module _ {C : Type 0} (k : Machine C) (naming : Naming k) (m : BookMeaning) (law
           each = λ c l. subst (λ (x : List ℕ). Remains x c (get_or f c 0)) e (a.inside c (get_or f c 0) (ins.each c (omega (arith, a.long))));
         };
         meets = closed_meets m listed u.sets (rw a.long ready.suits) law ready.known a.closed a.single f ins;
-        left = ins;
-        only = λ c v r. elim (cases_lt c (length u.sets)) [
-          | inl l ↦ let b = ins.each c l in one_place (left_at u.sets c) v (get_or f c 0) (a.single c) r.0 b.0 r.1 b.1
-          | inr l ↦ absurd (has_zero v (subst (λ (x : ℕ). In x v) (Rattle.std.proofs.lemmas.List.get_or_past u.sets c 0 l) r.1))
-        ];
+        left = record {
+          there = ins;
+          only = λ c v r. elim (cases_lt c (length u.sets)) [
+            | inl l ↦ let b = ins.each c l in one_place (left_at u.sets c) v (get_or f c 0) (a.single c) r.0 b.0 r.1 b.1
+            | inr l ↦ absurd (has_zero v (subst (λ (x : ℕ). In x v) (Rattle.std.proofs.lemmas.List.get_or_past u.sets c 0 l) r.1))
+          ];
+        };
       }
 
   fits_of : {sets : List ℕ} → Fills m start listed sets → Meetable m start listed

@@ -1,5 +1,6 @@
 -- The laws of settling, over its relation. Assumes nothing.
 use Rattle.std.proofs.Common.{◌≡◌, ℕ, ◌-◌, ◌^◌, ◌<◌, ◌≤◌, ◌⊎◌, List, length, get_or, sym, refl, ap, ◌∙◌, subst, subst₂, inl, inr, arith, length-set}
+use Rattle.std.specs.Prelude.{sum}
 use lib.ListN.{length-map}
 use Rattle.std.proofs.lemmas.List.{get_or-map}
 use Rattle.std.proofs.lemmas.Bool.{cases_eq, cases_lt}
@@ -7,7 +8,7 @@ use Rattle.bits.specs.Sets.{In}
 use Rattle.bits.proofs.Bits.{mark_same, mark_more, mark_only}
 use Rattle.network.specs.Book.{Rule, BookMeaning, Lawful, Supported, Remains}
 use Rattle.network.specs.Fillings.{row_of, Meets, MeetsAll, Inside}
-use Rattle.runs.specs.Settle.{Turns, Turns.none, Turns.more, Stops, State, state, left_at, cell_at, out_of, marked, total, Lost, Revises, Revises.absent, Revises.kept, Revises.removed, Empties, Empties.emptied, Position, PositionFails, Takes, TakesFails, Turn, Turn.unlisted, Turn.taken, Sweep, Settles, Settles.rest, Settles.again, Fails, Fails.at_once, Fails.later}
+use Rattle.runs.specs.Settle.{Turns, Turns.none, Turns.more, Stops, State, state, left_at, cell_at, out_of, marked, Lost, Revises, Revises.absent, Revises.kept, Revises.removed, Empties, Empties.emptied, Position, PositionFails, Takes, TakesFails, Turn, Turn.unlisted, Turn.taken, Sweep, Settles, Settles.rest, Settles.again, Fails, Fails.at_once, Fails.later}
 use Rattle.runs.specs.Law.{Suits, Full, Within, Closed, Marks, Settled, Clash}
 use Rattle.runs.proofs.Turning.{turns_keep}
 use Rattle.runs.proofs.Steps.{out_total, out_within, out_keeps, set_full}
@@ -56,7 +57,7 @@ module _ (m : BookMeaning) (listed n : ℕ) (suits : Suits m n) where
     pub marks : Marks listed s.used t.used
     pub largest : length s.sets ≡ n → (other : List ℕ) → Within other s.sets → Closed m listed other → Within other t.sets
     pub kept : length s.sets ≡ n → (f : List ℕ) → Inside f s.sets → MeetsAll m t.used f → Inside f t.sets
-    pub falls : length s.sets ≡ n → (s ≡ t) ⊎ (total t.sets < total s.sets)
+    pub falls : length s.sets ≡ n → (s ≡ t) ⊎ (sum t.sets < sum s.sets)
 
   sound_refl : (s : State) → Sound s s
   sound_refl s = record {
@@ -68,10 +69,10 @@ module _ (m : BookMeaning) (listed n : ℕ) (suits : Suits m n) where
     falls = λ h. inl refl;
   }
 
-  falls_trans : {s t u : State} → (s ≡ t) ⊎ (total t.sets < total s.sets) → (t ≡ u) ⊎ (total u.sets < total t.sets) → (s ≡ u) ⊎ (total u.sets < total s.sets)
+  falls_trans : {s t u : State} → (s ≡ t) ⊎ (sum t.sets < sum s.sets) → (t ≡ u) ⊎ (sum u.sets < sum t.sets) → (s ≡ u) ⊎ (sum u.sets < sum s.sets)
   falls_trans (inl p) (inl q) = inl (p ∙ q)
-  falls_trans {s} {t} {u} (inl p) (inr q) = inr (omega (arith, ap (λ (x : State). total x.sets) p))
-  falls_trans {s} {t} {u} (inr p) (inl q) = inr (omega (arith, ap (λ (x : State). total x.sets) q))
+  falls_trans {s} {t} {u} (inl p) (inr q) = inr (omega (arith, ap (λ (x : State). sum x.sets) p))
+  falls_trans {s} {t} {u} (inr p) (inl q) = inr (omega (arith, ap (λ (x : State). sum x.sets) q))
   falls_trans (inr p) (inr q) = inr (omega arith)
 
   sound_trans : {s t u : State} → Sound s t → Sound t u → Sound s u
@@ -121,24 +122,24 @@ module _ (m : BookMeaning) (listed n : ℕ) (suits : Suits m n) where
   sound_turns f (more {n = k} {t = t} {u = u} a b) = sound_trans (sound_turns (λ j x y h. f j x y (omega arith)) a) (f k t u (omega arith) b)
 
   -- ..that comes to nothing: each step came to nothing
-  no_fall : {s t : State} → (s ≡ t) ⊎ (total t.sets < total s.sets) → total t.sets ≡ total s.sets → s ≡ t
+  no_fall : {s t : State} → (s ≡ t) ⊎ (sum t.sets < sum s.sets) → sum t.sets ≡ sum s.sets → s ≡ t
   no_fall (inl p) e = p
   no_fall (inr l) e = absurd (omega arith)
 
-  falls_le : {s t : State} → (s ≡ t) ⊎ (total t.sets < total s.sets) → total t.sets ≤ total s.sets
-  falls_le {s} {t} (inl p) = omega (arith, ap (λ (x : State). total x.sets) p)
+  falls_le : {s t : State} → (s ≡ t) ⊎ (sum t.sets < sum s.sets) → sum t.sets ≤ sum s.sets
+  falls_le {s} {t} (inl p) = omega (arith, ap (λ (x : State). sum x.sets) p)
   falls_le (inr l) = omega arith
 
   still_turns : {R : ℕ → State → State → Type 0} {k : ℕ} {s t : State} → length s.sets ≡ n → ((j : ℕ) (a b : State) → j < k → R j a b → Sound a b)
-      → Turns R k s t → total t.sets ≡ total s.sets → (j : ℕ) → j < k → R j s s
+      → Turns R k s t → sum t.sets ≡ sum s.sets → (j : ℕ) → j < k → R j s s
   still_turns long f none e j h = absurd (omega arith)
   still_turns {R} long f (more {n = k} {s = s} {t = t} {u = u} a b) e j h =
       let sa : Sound s t = sound_turns (λ j x y h. f j x y (omega arith)) a in
       let sb : Sound t u = f k t u (omega arith) b in
       let la = falls_le (sa.falls long) in
       let lb = falls_le (sb.falls (sa.long long)) in
-      let ea : total t.sets ≡ total s.sets = omega arith in
-      let eb : total u.sets ≡ total t.sets = omega arith in
+      let ea : sum t.sets ≡ sum s.sets = omega arith in
+      let eb : sum u.sets ≡ sum t.sets = omega arith in
       let pa : s ≡ t = no_fall (sa.falls long) ea in
       let pb : t ≡ u = no_fall (sb.falls (sa.long long)) eb in
       elim (cases_eq j k) [
@@ -165,7 +166,7 @@ module _ (m : BookMeaning) (listed n : ℕ) (suits : Suits m n) where
   taken_of on (unlisted off) = absurd (off on)
   taken_of on (taken on' p) = p
 
-  supported_of : {r i v : ℕ} {s t : State} → cell_at m r i < length s.sets → total t.sets ≡ total s.sets → Remains s.sets (cell_at m r i) v
+  supported_of : {r i v : ℕ} {s t : State} → cell_at m r i < length s.sets → sum t.sets ≡ sum s.sets → Remains s.sets (cell_at m r i) v
       → Revises m r i v s t → Supported (m.rule r) i v s.sets
   supported_of l e h (absent k) = absurd (k h)
   supported_of l e h (kept p) = p
@@ -174,7 +175,7 @@ module _ (m : BookMeaning) (listed n : ℕ) (suits : Suits m n) where
   listed_known : Lawful m → (r i : ℕ) → i < length (m.rule r).cells → r < m.count
   listed_known law r i h = elim (cases_lt r m.count) [ inl l ↦ l | inr l ↦ absurd (omega (arith, ap length (law.missing r l))) ]
 
-  still_closed : {s t : State} → Lawful m → length s.sets ≡ n → Sweep m listed s t → total t.sets ≡ total s.sets → Closed m listed s.sets
+  still_closed : {s t : State} → Lawful m → length s.sets ≡ n → Sweep m listed s t → sum t.sets ≡ sum s.sets → Closed m listed s.sets
   still_closed {s} law long p e r i v on hi h =
       let at-rule = still_turns long (λ r a b h p. sound_turn p) p e r (listed_known law r i hi) in
       let at_position = still_turns long (λ i a b h p. sound_position on h p) (taken_of on at-rule) refl i hi in
@@ -187,7 +188,7 @@ module _ (m : BookMeaning) (listed n : ℕ) (suits : Suits m n) where
   sound_settles (again p d q) = sound_trans (sound_rules p) (sound_settles q)
 
   settles_closed : {s t : State} → Lawful m → length s.sets ≡ n → Settles m listed s t → Closed m listed t.sets
-  settles_closed law long (rest p e) = rw e (still_closed law long p (ap total e))
+  settles_closed law long (rest p e) = rw e (still_closed law long p (ap sum e))
   settles_closed law long (again p d q) = settles_closed law ((sound_rules p).long long) q
 
   -- ---- no cell is emptied
@@ -224,7 +225,7 @@ module _ (m : BookMeaning) (listed n : ℕ) (suits : Suits m n) where
   -- ---- failing: a cell is left empty, so that no filling is inside
   pub record Spent (s t : State) : Type 0 where
     pub sound : Sound s t
-    pub less : length s.sets ≡ n → total t.sets < total s.sets
+    pub less : length s.sets ≡ n → sum t.sets < sum s.sets
     pub none : length s.sets ≡ n → (f : List ℕ) → Inside f t.sets → ⊥
 
   spent_after : {s t u : State} → Sound s t → Spent t u → Spent s u
@@ -267,8 +268,8 @@ module _ (m : BookMeaning) (listed n : ℕ) (suits : Suits m n) where
       record { clash = λ q. a.none long q.filling (a.sound.kept long q.filling q.inside q.meets); marks = a.sound.marks }
 
   -- ---- what the code wants of it
-  pub settles_le : {s t : State} → length s.sets ≡ n → Settles m listed s t → total t.sets ≤ total s.sets
+  pub settles_le : {s t : State} → length s.sets ≡ n → Settles m listed s t → sum t.sets ≤ sum s.sets
   settles_le long p = falls_le ((sound_settles p).falls long)
 
-  pub fails_le : {r : ℕ} {s t : State} → length s.sets ≡ n → Fails m listed r s t → total t.sets ≤ total s.sets
+  pub fails_le : {r : ℕ} {s t : State} → length s.sets ≡ n → Fails m listed r s t → sum t.sets ≤ sum s.sets
   fails_le long p = omega (arith, (fails_spent p).less long)

@@ -1,22 +1,24 @@
 -- The sets without one place, and one place alone. Assumes nothing.
 use Rattle.std.proofs.Common.{◌≡◌, ℕ, zero, suc, ◌+◌, ◌-◌, ◌^◌, ◌<◌, ◌≢◌, List, [], ◌∷◌, length, get_or, set, sym, ap, ◌∙◌, subst, subst₂, inl, inr, arith, length-set, pow_pos}
+use Rattle.std.specs.Prelude.{sum}
+use Rattle.std.proofs.lemmas.List.Sums.{sum_by-cons}
 use Rattle.std.proofs.lemmas.List.{get_or-set_same, get_or-set_other}
 use Rattle.std.proofs.lemmas.Bool.{cases_eq}
 use Rattle.bits.specs.Sets.{In}
 use Rattle.bits.proofs.Bits.{has_le, out_same, out_other, pow_same, pow_other}
 use Rattle.network.specs.Book.{Remains}
 use Rattle.network.specs.Fillings.{Inside}
-use Rattle.runs.specs.Settle.{left_at, out_of, Empty, total}
+use Rattle.runs.specs.Settle.{left_at, out_of, Empty}
 use Rattle.runs.specs.Law.{Within, Full}
 
 -- the masks added up
-pub total_set : (s : List ℕ) (c x : ℕ) → c < length s → total (set s c x) + get_or s c 0 ≡ total s + x
-unfolding total
+pub total_set : (s : List ℕ) (c x : ℕ) → c < length s → sum (set s c x) + get_or s c 0 ≡ sum s + x
 total_set [] c x h = absurd (omega arith)
-total_set (a ∷ s) zero x h = omega arith
-total_set (a ∷ s) (suc c) x h = let ih = total_set s c x (omega arith) in omega arith
+total_set (a ∷ s) zero x h = omega (arith, sum_by-cons (λ n. n) a s, sum_by-cons (λ n. n) x s)
+total_set (a ∷ s) (suc c) x h =
+    let ih = total_set s c x (omega arith) in omega (arith, ih, sum_by-cons (λ n. n) a s, sum_by-cons (λ n. n) a (set s c x))
 
-pub out_total : (s : List ℕ) (c v : ℕ) → c < length s → In (get_or s c 0) v → total (out_of s c v) < total s
+pub out_total : (s : List ℕ) (c v : ℕ) → c < length s → In (get_or s c 0) v → sum (out_of s c v) < sum s
 out_total s c v h k = omega (arith, total_set s c (get_or s c 0 - 2 ^ v) h, has_le (get_or s c 0) v k, pow_pos v)
 
 -- a cell that is written, and the others

@@ -18,15 +18,15 @@ pub record Suits (m : BookMeaning) (n : ℕ) : Type 0 where
 abbrev pub Full : List ℕ → Type 0
 Full sets = (c : ℕ) → c < length sets → Empty sets c → ⊥
 
--- what remains in the one remains in the other
+-- every place that remains in the small sets remains in the large ones
 abbrev pub Within : List ℕ → List ℕ → Type 0
 Within small large = (c v : ℕ) → Remains small c v → Remains large c v
 
--- every place has support from every listed rule
+-- every place that remains at a cell of a listed rule has support from that rule
 abbrev pub Closed : BookMeaning → ℕ → List ℕ → Type 0
 Closed m listed sets = (r i v : ℕ) → In listed r → i < length (m.rule r).cells → Remains sets (cell_at m r i) v → Supported (m.rule r) i v sets
 
--- rules are only marked, and only listed ones
+-- from `used` on to `used'`, rules are only marked, and only listed ones
 pub record Marks (listed used used' : ℕ) : Type 0 where
   pub more : Subset used used'
   pub among : (r : ℕ) → In used' r → In used r ⊎ In listed r
@@ -54,13 +54,17 @@ pub record Ready (m : BookMeaning) (start : List ℕ) (listed : ℕ) : Type 0 wh
   pub known : (r : ℕ) → In listed r → r < m.count
   pub full : Full start
 
+-- the sets hold one place a cell, that of the filling
+pub record Alone (sets f : List ℕ) : Type 0 where
+  pub there : Inside f sets
+  pub only : (c v : ℕ) → Remains sets c v → v ≡ slice_index f c
+
 -- the sets left are a filling inside the starting ones that meets the rules: its place, and no other, remains at each cell
 pub record Fills (m : BookMeaning) (start : List ℕ) (rules : ℕ) (sets : List ℕ) : Type 0 where
   pub filling : List ℕ
   pub inside : Inside filling start
   pub meets : MeetsAll m rules filling
-  pub left : Inside filling sets
-  pub only : (c v : ℕ) → Remains sets c v → v ≡ slice_index filling c
+  pub left : Alone sets filling
 
 -- a line is right, where Fits a says that some filling meets the rules of a: the verdict is Met exactly if some filling meets the listed rules,
 -- else it is Unmet, and then the rules used are among them and no filling meets these

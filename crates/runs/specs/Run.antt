@@ -13,7 +13,7 @@ use Rattle.runs.specs.Figures.{figures_of}
 abbrev pub Tried : List ℕ → ℕ → ℕ → Type 0
 Tried sets c v = Lowest (left_at sets c) v
 
--- the chooser k, in the state x, names the cell c, and v is the place to try there
+-- the chooser k, in the state x, names a cell c, which is not 255, and v is the place to try there
 pub record Choice {C : Type 0} (k : Machine C) (m : BookMeaning) (listed : ℕ) (x : C) (s : State) (c v : ℕ) : Type 0 where
   pub named : k.names x (figures_of m listed s.sets s.weights) ≡ c
   pub some : c ≢ 255
@@ -34,7 +34,9 @@ abbrev pub back : State → ℕ → ℕ → State → State
 back s c v t = state (out_of s.sets c v) t.used t.weights
 
 mutual
-  -- from settled sets to the end: true is a filling, false is none
+  -- from settled sets to the end: true is a filling, false is none.
+  -- Where no cell is open the sets are a filling (filled). Otherwise a place is tried: the try stands to a filling (stands); or it fails, and the sets
+  -- from before it settle without the place, and the run goes on from there (goes_on), or they do not settle (ends)
   pub data Explores {C : Type 0} (k : Machine C) (m : BookMeaning) (listed : ℕ) : C → State → Bool → C → State → Type 0 where
     filled : {x : C} {s : State} → k.names x (figures_of m listed s.sets s.weights) ≡ 255 → Explores k m listed x s true x s
     stands : {x y : C} {s t u : State} {c v : ℕ} → Choice k m listed x s c v → Settles m listed (alone s c v) t
@@ -44,13 +46,13 @@ mutual
     ends : {x y : C} {s t u : State} {c v r : ℕ} → Choice k m listed x s c v → TryFails k m listed x s c v y t
         → Fails m listed r (back s c v t) u → Explores k m listed x s false y u
 
-  -- the try of v at c fails: in its first settling; or later, when settling fails while it is the latest try still standing
+  -- the try of v at c fails: in its first settling (at_first); or later, when settling fails while it is the latest try still standing (at_last)
   pub data TryFails {C : Type 0} (k : Machine C) (m : BookMeaning) (listed : ℕ) : C → State → ℕ → ℕ → C → State → Type 0 where
     at_first : {x : C} {s t : State} {c v r : ℕ} → Fails m listed r (alone s c v) t → TryFails k m listed x s c v (k.told x (Failed c)) t
     at_last : {x y : C} {s t u : State} {c v : ℕ} → Settles m listed (alone s c v) t
         → Explores k m listed (k.told x (Stood c)) t false y u → TryFails k m listed x s c v (k.told y (Failed c)) u
 
--- the try of v at c stands to a filling
+-- the try of v at c stands: it settles, and a filling comes of it
 pub record TryStands {C : Type 0} (k : Machine C) (m : BookMeaning) (listed : ℕ) (x : C) (s : State) (c v : ℕ) (y : C) (u : State) : Type 0 where
   pub after : State
   pub first : Settles m listed (alone s c v) after

@@ -1,5 +1,5 @@
 -- Settling: the places revised in order, and what each revision leaves. Assumes nothing.
-use Rattle.std.specs.Prelude.{◌≡◌, ℕ, suc, ◌+◌, ◌-◌, ◌^◌, ◌<◌, min, ◌≢◌, List, [], ◌∷◌, length, bit_or, slice_index, slice_index_or, slice_set}
+use Rattle.std.specs.Prelude.{◌≡◌, ℕ, suc, ◌+◌, ◌-◌, ◌^◌, ◌<◌, min, ◌≢◌, List, length, bit_or, slice_index, slice_index_or, slice_set}
 use Rattle.bits.specs.Sets.{In}
 use Rattle.network.specs.Book.{BookMeaning, Supported, Remains}
 
@@ -25,12 +25,12 @@ Empty sets c = (v : ℕ) → Remains sets c v → ⊥
 abbrev pub cell_at : BookMeaning → ℕ → ℕ → ℕ
 cell_at m r i = slice_index_or (m.rule r).cells i 255
 
--- n turns of R, numbered from 0
+-- n turns, one after another: R k s t says that the turn of number k, from 0, leads from s to t
 pub data Turns {S : Type 0} (R : ℕ → S → S → Type 0) : ℕ → S → S → Type 0 where
   none : {s : S} → Turns R 0 s s
   more : {n : ℕ} {s t u : S} → Turns R n s t → R n t u → Turns R (suc n) s u
 
--- turns of R up to the turn j of n, which goes by F and is the last
+-- n such turns that are cut short: those before j are made, and the turn j goes by F and is the last
 pub record Stops {S : Type 0} (R F : ℕ → S → S → Type 0) (n j : ℕ) (s t : S) : Type 0 where
   pub before : S
   pub within : j < n
@@ -54,7 +54,8 @@ marked used r = bit_or used (2 ^ r)
 abbrev pub weighed : ℕ → List ℕ → List ℕ
 weighed r weights = slice_set weights r (min (slice_index weights r + 1) 4294967295)
 
--- place v at position i of rule r is revised: it does not remain, or it has support, or it is removed and the rule marked used, while another place remains at the cell
+-- place v at position i of rule r is revised: it does not remain, or it has support, and nothing changes; or it is removed and the rule marked used,
+-- and another place remains at the cell
 pub data Revises (m : BookMeaning) (r i : ℕ) : ℕ → State → State → Type 0 where
   absent : {v : ℕ} {s : State} → (Remains s.sets (cell_at m r i) v → ⊥) → Revises m r i v s s
   kept : {v : ℕ} {s : State} → Supported (m.rule r) i v s.sets → Revises m r i v s s
@@ -108,8 +109,3 @@ pub data Settles (m : BookMeaning) (listed : ℕ) : State → State → Type 0 w
 pub data Fails (m : BookMeaning) (listed r : ℕ) : State → State → Type 0 where
   at_once : {s t : State} → SweepFails m listed r s t → Fails m listed r s t
   later : {s t u : State} → Sweep m listed s t → t.sets ≢ s.sets → Fails m listed r t u → Fails m listed r s u
-
--- the masks added up, which is less after any removal
-unfoldable pub total : List ℕ → ℕ
-total [] = 0
-total (places ∷ sets) = places + total sets

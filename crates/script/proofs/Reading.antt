@@ -3,12 +3,12 @@ use Rattle.std.proofs.Common.{◌≡◌, ◌≢◌, ℕ, ◌+◌, ◌<◌, ◌�
 use Rattle.std.specs.Option.{unwrap_or}
 use Rattle.std.proofs.lemmas.List.{take_all, map_more, get_or-map, length-map}
 use Rattle.bits.proofs.Lists.{each_at}
-use Rattle.std.specs.List.{AllByRecursion}
+use Rattle.std.specs.List.{AllByRecursion, AllZip}
 use Rattle.calls.specs.declared.call.Call.TheVariants.{Pin, Free, Switch, Fit}
 use Rattle.script.specs.declared.line.Line.{Line}
 use Rattle.script.specs.declared.line.Line.TheVariants.{Blank, Call, Turn, NotUnderstood}
 use Rattle.script.specs.Words.{words_of, IsNumber, rule_number, cell_number}
-use Rattle.script.specs.Script.{flags_of, Says, blank, comment, pin, free, on_word, switch, fit, turn, Decided, ReadAs, understood, nothing, AreRead, none, more}
+use Rattle.script.specs.Script.{flags_of, Says, blank, comment, pin, free, on_word, switch, fit, turn, Decided, ReadAs, understood, nothing}
 
 -- the letter at a place of the first word
 abbrev letter : ℕ → List (List ℕ) → ℕ
@@ -156,12 +156,14 @@ read_blank v text [] f z =
     let e = sym f in understood (subst (λ ws. Says ws Blank) (sym e) blank)
 
 -- ---- one line after another
-lines_push : (ts : List (List ℕ)) (ls : List Line) (t : List ℕ) (l : Line) → AreRead ts ls → ReadAs t l → AreRead (ts ++ (t ∷ [])) (ls ++ (l ∷ []))
-lines_push ts ls t l none r = more r none
-lines_push ts ls t l (more q qs) r = more q (lines_push _ _ t l qs r)
+lines_push : (ts : List (List ℕ)) (ls : List Line) (t : List ℕ) (l : Line) → AllZip ReadAs ts ls → ReadAs t l → AllZip ReadAs (ts ++ (t ∷ [])) (ls ++ (l ∷ []))
+lines_push [] [] t l a r = (r, tt)
+lines_push [] (m ∷ ms) t l a r = absurd a
+lines_push (u ∷ us) [] t l a r = absurd a
+lines_push (u ∷ us) (m ∷ ms) t l a r = (a.0, lines_push us ms t l a.1 r)
 
-pub lines_more : {A : Type 0} (v : A → List ℕ) (xs : List A) (i : ℕ) (d : A) (ls : List Line) (l : Line) → i < length xs → AreRead (map v (take i xs)) ls → ReadAs (v (get_or xs i d)) l → AreRead (map v (take (i + 1) xs)) (ls ++ (l ∷ []))
-lines_more v xs i d ls l h a r = subst (λ ts. AreRead ts (ls ++ (l ∷ []))) (sym (map_more v xs i d h)) (lines_push (map v (take i xs)) ls (v (get_or xs i d)) l a r)
+pub lines_more : {A : Type 0} (v : A → List ℕ) (xs : List A) (i : ℕ) (d : A) (ls : List Line) (l : Line) → i < length xs → AllZip ReadAs (map v (take i xs)) ls → ReadAs (v (get_or xs i d)) l → AllZip ReadAs (map v (take (i + 1) xs)) (ls ++ (l ∷ []))
+lines_more v xs i d ls l h a r = subst (λ ts. AllZip ReadAs ts (ls ++ (l ∷ []))) (sym (map_more v xs i d h)) (lines_push (map v (take i xs)) ls (v (get_or xs i d)) l a r)
 
 -- ---- one thing alone
 abbrev second : List ℕ → ℕ

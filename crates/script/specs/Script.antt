@@ -1,6 +1,6 @@
 -- What the lines of a script say. Assumes nothing.
 use Rattle.std.specs.Prelude.{ℕ, Bool, true, false, List, [], ◌∷◌, replicate, codes, fold, slice_set, Option, MatchOption, ◌==◌}
-use Rattle.std.specs.List.{slice_split, AllByRecursion}
+use Rattle.std.specs.List.{slice_split, AllByRecursion, AllZip}
 use Rattle.calls.specs.declared.call.Call.TheVariants.{Pin, Free, Switch, Fit}
 use Rattle.script.specs.declared.line.Line.{Line}
 use Rattle.script.specs.declared.line.Line.TheVariants.{Blank, Call, Turn, NotUnderstood}
@@ -40,14 +40,10 @@ pub data ReadAs (text : List ℕ) : Line → Type 0 where
   understood : {l : Line} → Says (words_of text) l → ReadAs text l
   nothing : ((l : Line) → Says (words_of text) l → ⊥) → ReadAs text NotUnderstood
 
--- some lines, each read as what it says
-pub data AreRead : List (List ℕ) → List Line → Type 0 where
-  none : AreRead [] []
-  more : {t : List ℕ} {l : Line} {ts : List (List ℕ)} {ls : List Line} → ReadAs t l → AreRead ts ls → AreRead (t ∷ ts) (l ∷ ls)
-
 -- the lines of a script: what stands between its newline bytes
 abbrev pub texts_of : List ℕ → List (List ℕ)
 texts_of script = slice_split (λ b. b == 10) script
 
+-- these are the lines of a script, each read as what it says
 abbrev pub IsScript : List ℕ → List Line → Type 0
-IsScript script ls = AreRead (texts_of script) ls
+IsScript script ls = AllZip ReadAs (texts_of script) ls

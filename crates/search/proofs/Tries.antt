@@ -1,5 +1,6 @@
 -- Tries, from what the code writes. Assumes nothing.
 use Rattle.std.proofs.Common.{◌≡◌, ℕ, ◌+◌, ◌-◌, ◌*◌, ◌^◌, ◌<◌, ◌≤◌, Bool, true, false, ◌≢◌, Ok, Err, Result, MatchResult, is_ok, List, get_or, set, sym, refl, ap, subst, inl, inr, arith, length-set}
+use Rattle.std.specs.Prelude.{sum}
 use Rattle.std.proofs.lemmas.Bool.{cases_eq, false≢true, true≢false}
 use Rattle.bits.specs.Sets.{In, Lowest, size}
 use Rattle.bits.proofs.Bits.{has_le}
@@ -7,7 +8,7 @@ use Rattle.bits.proofs.Size.{size_pow, size_zero}
 use Rattle.network.specs.Book.{BookMeaning}
 use Rattle.choosers.specs.Choice.{Machine, Naming}
 use Rattle.choosers.specs.declared.chooser.Event.TheVariants.{Failed, Stood}
-use Rattle.runs.specs.Settle.{State, state, left_at, out_of, total, Settles, Fails}
+use Rattle.runs.specs.Settle.{State, state, left_at, out_of, Settles, Fails}
 use Rattle.runs.specs.Figures.{figures_of}
 use Rattle.runs.specs.Run.{back, Choice, TryFails, TryFails.at_first, TryFails.at_last, TryStands, Chosen, Explores, Explores.stands, Explores.goes_on, Explores.ends}
 use Rattle.runs.specs.Law.{Settled}
@@ -41,14 +42,14 @@ pub chosen_above : (sets : List ℕ) (c v : ℕ) → Chosen sets c v → 2 ^ v <
 chosen_above sets c v a = open_above (left_at sets c) v a.opened a.there.1
 
 -- the measure of a try falls
-pub try_falls : (s u : List ℕ) (c v p t : ℕ) → 2 * total s ≡ t → Chosen s c v → p ≡ 2 ^ v → total u ≤ total (set s c p) → 2 * total u + 1 < t
+pub try_falls : (s u : List ℕ) (c v p t : ℕ) → 2 * sum s ≡ t → Chosen s c v → p ≡ 2 ^ v → sum u ≤ sum (set s c p) → 2 * sum u + 1 < t
 try_falls s u c v p t m a e h = omega (arith, total_set s c p a.within, chosen_above s c v a)
 
-pub loop_falls : (s r : List ℕ) (t : ℕ) → 2 * total r + 1 ≡ t → total s ≤ total r → 2 * total s < t
+pub loop_falls : (s r t : ℕ) → 2 * r + 1 ≡ t → s ≤ r → 2 * s < t
 loop_falls s r t m h = omega arith
 
-pub out_falls : (sets b : List ℕ) (c v : ℕ) → Chosen sets c v → b ≡ out_of sets c v → total b < total sets
-out_falls sets b c v k e = subst (λ (x : List ℕ). total x < total sets) (sym e) (out_total sets c v k.within k.there.1)
+pub out_falls : (sets b : List ℕ) (c v : ℕ) → Chosen sets c v → b ≡ out_of sets c v → sum b < sum sets
+out_falls sets b c v k e = subst (λ (x : List ℕ). sum x < sum sets) (sym e) (out_total sets c v k.within k.there.1)
 
 pub le_of_lt_le : {a b c d : ℕ} → a ≤ b → b < c → c ≤ d → a ≤ d
 le_of_lt_le p q r = omega arith

@@ -8,7 +8,7 @@ unfoldable pub opens : List ℕ → ℕ
 opens [] = 0
 opens (places ∷ sets) = cond (nat_lt 1 (size places)) 1 0 + opens sets
 
--- at most 64 cells, some place at each, and room for a frame for each open cell
+-- there are at most 64 cells and some place at each, and the work buffer has room for all sets once for each open cell
 pub record Able (sets : List ℕ) (work : ℕ) : Type 0 where
   pub few : length sets ≤ 64
   pub full : Full sets

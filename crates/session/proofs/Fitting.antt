@@ -8,7 +8,7 @@ use Rattle.network.specs.Book.{BookMeaning, Lawful}
 use Rattle.network.specs.Fillings.{Meetable}
 use Rattle.choosers.specs.Choice.{Machine, Naming}
 use Rattle.runs.specs.declared.line.Line.{Line}
-use Rattle.runs.specs.Law.{Ready, Fills}
+use Rattle.runs.specs.Law.{Ready, Fills, Alone}
 use Rattle.cores.specs.Core.{Outcome, Outcome.left, Outcome.core}
 use Rattle.cores.specs.Fit.{Fit}
 use Rattle.clash.specs.declared.fitted.Fitted.{Fitted as Values}
@@ -16,7 +16,7 @@ use Rattle.clash.specs.Running.{lasting}
 use Rattle.clash.specs.Logged.{Answers, Logged}
 use Rattle.calls.specs.Sheet.{cells, Opens}
 use Rattle.calls.specs.History.{Valid}
-use Rattle.calls.specs.Runs.{Ran, Alone, Comes, FitRuns, FitLaw}
+use Rattle.calls.specs.Runs.{Ran, Comes, FitRuns, FitLaw}
 use Rattle.calls.proofs.Fillings.{ready, few_rules, starts_long, where_small, where_low}
 use Rattle.calls.proofs.Promising.{first_run, runs_law}
 use Rattle.session.specs.Pins.{held, LowestByte}
@@ -49,12 +49,12 @@ lowest_filling : {m : BookMeaning} {start sets : List ℕ} {on : ℕ} (bytes : L
     → ((c : ℕ) → c < length sets → LowestByte (get_or sets c 0) (get_or bytes c 0)) → Alone sets (take (length sets) bytes)
 lowest_filling {sets = sets} bytes p room low =
     let wide : length (take (length sets) bytes) ≡ length sets = length-take-le (length sets) bytes room in
-    let e : p.filling ≡ take (length sets) bytes = ext_get_or 0 p.filling (take (length sets) bytes) (p.left.long ∙ sym wide) (λ c lt.
-    let l : c < length sets = let a = p.left.long in omega arith in
-    let r = p.left.each c l in
+    let e : p.filling ≡ take (length sets) bytes = ext_get_or 0 p.filling (take (length sets) bytes) (p.left.there.long ∙ sym wide) (λ c lt.
+    let l : c < length sets = let a = p.left.there.long in omega arith in
+    let r = p.left.there.each c l in
     let q = (low c l).some (λ z. has_zero (get_or p.filling c 0) (subst (λ (x : ℕ). In x (get_or p.filling c 0)) z r.1)) in
-    sym (get_or-take (length sets) bytes c 0 l ∙ p.only c (get_or bytes c 0) (q.1, q.0.there))) in
-    subst (Alone sets) e (record { there = p.left; only = p.only })
+    sym (get_or-take (length sets) bytes c 0 l ∙ p.left.only c (get_or bytes c 0) (q.1, q.0.there))) in
+    subst (Alone sets) e p.left
 
 module _ {B C : Type 0} (meaning : B → BookMeaning) (k : Machine C) (naming : Naming k) (s : Session B C) (law : Lawful (meaning s.book)) (opens : Opens (sheet_of meaning s)) where
   abbrev the_start : List ℕ

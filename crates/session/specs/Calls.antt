@@ -1,5 +1,5 @@
 -- What a session is, and what the single calls change. Assumes nothing.
-use Rattle.std.specs.Prelude.{◌≡◌, ℕ, true, false, ◌≢◌, List, length, get_or, replicate, Some, None, slice_index, slice_index_or, slice_set}
+use Rattle.std.specs.Prelude.{◌≡◌, ℕ, true, false, ◌≢◌, List, length, replicate, Some, None, slice_index, slice_index_or, slice_set}
 use Rattle.network.specs.Book.{BookMeaning}
 use Rattle.choosers.specs.Choice.{Machine}
 use Rattle.runs.specs.declared.line.Line.{Line}
@@ -41,10 +41,11 @@ changed t (Free cell) = record { pins = slice_set t.pins cell None; switches = t
 changed t (Switch rule on) = record { pins = t.pins; switches = slice_set t.switches rule on; weights = t.weights }
 changed t Fit = t
 
--- a session with another table, and with another chooser and other weights
+-- the session with another table
 abbrev pub with_table : {B C : Type 0} → Session B C → Table → Session B C
 with_table s t = record { lengths = s.lengths; book = s.book; chooser = s.chooser; table = t }
 
+-- the session with another chooser and other weights
 abbrev pub with_lasting : {B C : Type 0} → Session B C → Lasting C → Session B C
 with_lasting s l = record { lengths = s.lengths; book = s.book; chooser = l.chooser; table = record { pins = s.table.pins; switches = s.table.switches; weights = l.weights } }
 
@@ -54,12 +55,13 @@ pub record Changed {B C : Type 0} (meaning : B → BookMeaning) (call : Call) (s
   pub refused : (said answer).number ≢ 0 → t ≡ s
   pub done : (said answer).number ≡ 0 → t ≡ with_table s (changed s.table call)
 
--- what each cell starts with, and the rules that are on, by the table
+-- what each cell starts with, by the pins of the table
 abbrev pub table_start : List ℕ → Table → List ℕ
 table_start lengths t = starts lengths (λ c. held (slice_index lengths c) (slice_index_or t.pins c None))
 
+-- the rules that are on, by the switches of the table
 abbrev pub table_on : BookMeaning → Table → ℕ
-table_on m t = set_where (λ r. get_or t.switches r false) m.count
+table_on m t = set_where (λ r. slice_index_or t.switches r false) m.count
 
 -- a Fit that is not refused: its runs change the chooser and the weights alone, and it returns what they come to, which is a filling or a core as promised
 pub record Solved {B C : Type 0} (meaning : B → BookMeaning) (k : Machine C) (s : Session B C) (log : List Line) (filling : List ℕ) (f : Values) (t : Session B C) (log' : List Line) (filling' : List ℕ) : Type 0 where
@@ -68,6 +70,7 @@ pub record Solved {B C : Type 0} (meaning : B → BookMeaning) (k : Machine C) (
   pub law : FitLaw (meaning s.book) (table_start s.lengths.now s.table) (table_on (meaning s.book) s.table) log' filling' f
   pub keeps : Keeps (cells (sheet_of meaning s)) f log log' filling filling'
 
+-- the lengths of the three buffers of a Fit
 abbrev pub sizes_of : List ℕ → List Line → List ℕ → Sizes
 sizes_of work log filling = record { work = length work; log = length log; filling = length filling }
 

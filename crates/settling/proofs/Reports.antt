@@ -1,8 +1,9 @@
 -- Reports, one after another. Assumes nothing.
 use Rattle.std.proofs.Common.{◌≡◌, ℕ, ◌+◌, ◌≤◌, Bool, true, false, ◌||◌, ◌≢◌, length, sym, refl, ap, ◌∙◌, subst, subst₂, arith}
+use Rattle.std.specs.Prelude.{sum}
 use Rattle.std.proofs.lemmas.Bool.{false≢true, true≢false}
 use Rattle.network.specs.declared.book.RuleBook.{Ghosts}
-use Rattle.runs.specs.Settle.{State, total, Turns}
+use Rattle.runs.specs.Settle.{State, Turns}
 use Rattle.runs.proofs.Turning.{turns_more}
 use Rattle.settling.specs.declared.progress.Progress.{Progress}
 use Rattle.settling.specs.Kept.{state_of, Kept}
@@ -34,19 +35,19 @@ module _ {B : Type 0} {r : Ghosts B} where
 pub report_none : (s : State) → Report false s s
 report_none s = record { same = λ _. refl; less = λ e. absurd (false≢true e) }
 
-pub report_le : {b : Bool} {s t : State} → Report b s t → total t.sets ≤ total s.sets
+pub report_le : {b : Bool} {s t : State} → Report b s t → sum t.sets ≤ sum s.sets
 report_le {b} {s} {t} r = go b r
   where
-    go : (b : Bool) → Report b s t → total t.sets ≤ total s.sets
+    go : (b : Bool) → Report b s t → sum t.sets ≤ sum s.sets
     go true r = let h = r.less refl in omega arith
-    go false r = let h = ap total (r.same refl) in omega arith
+    go false r = let h = ap sum (r.same refl) in omega arith
 
 pub report_more : (a b : Bool) {s t u : State} → Report a s t → Report b t u → Report (a || b) s u
 report_more true b {s} {t} {u} p q = record { same = λ e. absurd (true≢false e); less = λ _. let h = p.less refl in omega (arith, report_le q) }
 report_more false b {s} {t} {u} p q = record { same = λ e. q.same e ∙ p.same refl; less = λ e. let h = q.less e in omega (arith, report_le p) }
 
 pub report_differs : {s t : State} → Report true s t → t.sets ≢ s.sets
-report_differs r e = let h = r.less refl in omega (arith, ap total e)
+report_differs r e = let h = r.less refl in omega (arith, ap sum e)
 
 pub turns_all : {R : ℕ → State → State → Type 0} {s t : State} (n k : ℕ) → n ≡ k → Turns R n s t → Turns R k s t
 turns_all {R} {s} {t} n k e p = subst (λ (j : ℕ). Turns R j s t) e p

@@ -1,5 +1,6 @@
 -- One revision, from what the code tests. Assumes nothing.
 use Rattle.std.proofs.Common.{◌≡◌, ℕ, zero, suc, ◌+◌, ◌-◌, ◌*◌, ◌/◌, ◌%◌, ◌^◌, ◌<◌, ◌≤◌, true, ◌≢◌, List, length, get_or, set, sym, refl, ap, ◌∙◌, subst, subst₂, inl, inr, add-zero, add-suc, one-mul, pow-suc, arith, length-set, pow_pos, pow_mono}
+use Rattle.std.specs.Prelude.{sum}
 use lib.Bits.{bit_or}
 use lib.Count.{count_leading_zeros}
 use Rattle.std.proofs.lemmas.List.{get_or-set_same}
@@ -9,7 +10,7 @@ use Rattle.bits.specs.Sets.{In}
 use Rattle.bits.proofs.Bits.{has_zero, has_le}
 use Rattle.bits.proofs.Size.{not_zero}
 use Rattle.network.specs.Book.{BookMeaning, Supported, Remains}
-use Rattle.runs.specs.Settle.{Turns, Turns.none, Turns.more, State, state, cell_at, Lost, Empty, total, out_of, weighed, Revises, Revises.absent, Revises.kept, Revises.removed, Empties, Empties.emptied}
+use Rattle.runs.specs.Settle.{Turns, Turns.none, Turns.more, State, state, cell_at, Lost, Empty, out_of, weighed, Revises, Revises.absent, Revises.kept, Revises.removed, Empties, Empties.emptied}
 use Rattle.runs.proofs.Steps.{out_total, out_within}
 use Rattle.settling.specs.Report.{Report}
 
@@ -43,7 +44,7 @@ module _ (m : BookMeaning) (r i v : ℕ) (s : List ℕ) (u c : ℕ) (w : List �
     pub report_at : Report true (state s u w) (state (set s c rest) used' w)
     report_at = record {
       same = λ q. absurd (true≢false q);
-      less = λ _. subst (λ (t : List ℕ). total t < total s) out_is (out_total s (cell_at m r i) v within (subst (λ (x : ℕ). In (get_or s x 0) v) at h));
+      less = λ _. subst (λ (t : List ℕ). sum t < sum s) out_is (out_total s (cell_at m r i) v within (subst (λ (x : ℕ). In (get_or s x 0) v) at h));
     }
 
 -- ---- the places past the highest are absent

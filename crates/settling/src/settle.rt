@@ -1,6 +1,6 @@
 //! Sweeps of the listed rules, until nothing is removed or a cell is empty.
-ghost use Rattle.std.specs.Prelude.{◌≡◌, ◌<◌, ◌≤◌, length, MatchResult};
-ghost use Rattle.runs.specs.Settle.{total, Sweep, SweepFails, Settles, Fails};
+ghost use Rattle.std.specs.Prelude.{◌≡◌, ◌<◌, ◌≤◌, length, sum, MatchResult};
+ghost use Rattle.runs.specs.Settle.{Sweep, SweepFails, Settles, Fails};
 ghost use Rattle.runs.specs.Law.{Full, Settled, Clash, OnlySettles, OnlyFails};
 ghost use Rattle.settling.specs.Kept.{state_of, Kept};
 ghost use Rattle.settling.specs.Report.{Report};
@@ -39,7 +39,7 @@ impl<B: RuleBook> Progress<'_, B> {
         ensures law { MatchResult result
             (λ _. Full self.old.sets.now → Settled (B.meaning self.old.book.now) self.old.rules (state_of self.old) (state_of self.new))
             (λ _. Clash (B.meaning self.old.book.now) self.old.rules (state_of self.old) (state_of self.new)) }
-        ensures less { total self.new.sets.now ≤ total self.old.sets.now }
+        ensures no_more { sum self.new.sets.now ≤ sum self.old.sets.now }
     {
         while self.sweep()? {}
         Ok(())

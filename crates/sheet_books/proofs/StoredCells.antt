@@ -46,12 +46,8 @@ Apart cs = (j k : ℕ) → j < k → k < length cs → get_or cs j 0 ≡ get_or 
 
 not_among : (c : ℕ) (xs : List ℕ) → among c xs ≡ false → (k : ℕ) → k < length xs → get_or xs k 0 ≡ c → ⊥
 not_among c [] f k h e = omega arith
-not_among c (x ∷ xs) f zero h e = both_ways _ f (cond-true (eqb c x) true (among c xs) (eq-eqb c x (sym e)))
-not_among c (x ∷ xs) f (suc k) h e =
-    ⊎_elim
-    (λ t. true≢false (sym (cond-true (eqb c x) true (among c xs) t) ∙ f))
-    (λ g. not_among c xs (sym (cond-false (eqb c x) true (among c xs) g) ∙ f) k (omega arith) e)
-    (cases_Bool (eqb c x))
+not_among c (x ∷ xs) f zero h e = both_ways _ f (or_left (eqb c x) (among c xs) (eq-eqb c x (sym e)))
+not_among c (x ∷ xs) f (suc k) h e = not_among c xs (or_parts (eqb c x) (among c xs) f).1 k (omega arith) e
 
 push_apart : (cs : List ℕ) (c : ℕ) → Apart cs → among c cs ≡ false → Apart (cs ++ (c ∷ []))
 push_apart cs c a f j k l h e =

@@ -1,5 +1,6 @@
 -- What a sheet means as a rule book. Assumes nothing.
-use Rattle.std.specs.Prelude.{◌≡◌, ℕ, ◌+◌, ◌-◌, ◌<◌, Bool, true, false, cond, not, ◌&&◌, ◌||◌, List, [], ◌∷◌, length, replicate, ℤ, pos, ◌==◌, nat_lt, slice_index_or, slice_set}
+use Rattle.std.specs.Prelude.{◌≡◌, ℕ, ◌+◌, ◌-◌, ◌<◌, Bool, true, false, cond, not, ◌&&◌, List, [], ◌∷◌, length, replicate, ℤ, pos, ◌==◌, nat_lt, slice_index_or, slice_set}
+use Rattle.std.specs.List.{list_any}
 use Rattle.std.specs.Str.{bytes_eq}
 use Rattle.network.specs.Book.{Rule, BookMeaning}
 use Rattle.rows.specs.declared.rule.Kind.{Kind}
@@ -12,14 +13,14 @@ use Rattle.sheets.specs.Sheet.{Sheet, RowsField}
 
 -- the row is one of some rows
 abbrev pub one_of : List ℕ → List (List ℕ) → Bool
-one_of row [] = false
-one_of row (r ∷ rs) = bytes_eq r row || one_of row rs
+one_of row rows = list_any (λ r. bytes_eq r row) rows
 
--- permitted rows are permitted; of forbidden rows, every other row of that width is
+-- whether a row is permitted by a rule with these stored rows: permitted rows are those stored; forbidden rows leave every other row of that width
 abbrev pub permits_row : Kind → ℕ → List (List ℕ) → List ℕ → Bool
 permits_row Permitted width rows row = one_of row rows
 permits_row Forbidden width rows row = length row == width && not (one_of row rows)
 
+-- what a rule by its rows means
 abbrev pub rows_rule : RowsField → Rule
 rows_rule x = record { cells = x.cells; permits = permits_row x.kind (length x.cells) x.rows }
 
@@ -27,7 +28,7 @@ rows_rule x = record { cells = x.cells; permits = permits_row x.kind (length x.c
 abbrev pub number_at : List (List ℤ) → ℕ → ℕ → ℤ
 number_at lists c v = slice_index_or (slice_index_or lists c []) v (pos 0)
 
--- one place for each cell, each of its cell's list
+-- the row has one place for each cell, and each is of its cell's list
 abbrev pub listed : List (List ℤ) → List ℕ → List ℕ → Bool
 listed lists [] [] = true
 listed lists [] (v ∷ vs) = false
@@ -47,10 +48,11 @@ formula_rule lists c = record {
   permits = λ row. listed lists (cells_of c) row && truth (numbers_at lists (replicate 64 (pos 0)) (cells_of c) row) c;
 }
 
--- what stands for a rule that is missing
+-- what stands for a missing rule by rows
 abbrev pub no_rows : RowsField
 no_rows = record { kind = Permitted; cells = []; rows = [] }
 
+-- what stands for a missing formula
 abbrev pub no_condition : Condition
 no_condition = compares (Number (pos 0)) Equal (Number (pos 0))
 

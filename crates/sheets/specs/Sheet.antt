@@ -1,7 +1,6 @@
 -- A sheet, its limits, and its bytes. Assumes nothing.
 use Rattle.std.specs.Prelude.{◌≡◌, ℕ, ◌+◌, ◌/◌, ◌%◌, ◌<◌, ◌≤◌, List, [], ◌∷◌, ◌++◌, map, length, ℤ, pos, ◌≢◌, slice_index, slice_index_or, unsigned_abs}
-use Rattle.std.proofs.Common.{of_z}
-use Rattle.std.specs.Int.{w32}
+use Rattle.std.specs.Int.{w32, cast_unsigned}
 use Rattle.std.specs.List.{flat_map, AllByRecursion}
 use Rattle.rows.specs.declared.rule.Kind.{Kind}
 use Rattle.rows.specs.declared.rule.Kind.TheVariants.{Permitted, Forbidden}
@@ -20,26 +19,31 @@ pub record Sheet : Type 0 where
   pub rows : List RowsField
   pub formulas : List Condition
 
--- the sheet with nothing in it, and a sheet with one more list, rows rule or formula
+-- the sheet with nothing in it
 abbrev pub empty : Sheet
 empty = record { lists = []; rows = []; formulas = [] }
 
+-- the sheet with one more list
 abbrev pub with_list : Sheet → List ℤ → Sheet
 with_list s zs = record { lists = s.lists ++ (zs ∷ []); rows = s.rows; formulas = s.formulas }
 
+-- the sheet with one more rule by rows
 abbrev pub with_rows : Sheet → RowsField → Sheet
 with_rows s x = record { lists = s.lists; rows = s.rows ++ (x ∷ []); formulas = s.formulas }
 
+-- the sheet with one more formula
 abbrev pub with_formula : Sheet → Condition → Sheet
 with_formula s c = record { lists = s.lists; rows = s.rows; formulas = s.formulas ++ (c ∷ []) }
 
 -- a number in four bytes, high byte first, two's complement
 abbrev pub four_bytes : ℤ → List ℕ
-four_bytes z = of_z w32 z / 16777216 ∷ of_z w32 z / 65536 % 256 ∷ of_z w32 z / 256 % 256 ∷ of_z w32 z % 256 ∷ []
+four_bytes z = cast_unsigned w32 z / 16777216 ∷ cast_unsigned w32 z / 65536 % 256 ∷ cast_unsigned w32 z / 256 % 256 ∷ cast_unsigned w32 z % 256 ∷ []
 
+-- the numbers of a list, one after another
 abbrev pub list_bytes : List ℤ → List ℕ
 list_bytes zs = flat_map four_bytes zs
 
+-- the byte of a kind
 abbrev pub kind_byte : Kind → ℕ
 kind_byte Permitted = 0
 kind_byte Forbidden = 1
@@ -48,20 +52,24 @@ kind_byte Forbidden = 1
 abbrev pub rows_bytes : RowsField → List ℕ
 rows_bytes r = kind_byte r.kind ∷ length r.cells ∷ (r.cells ++ flat_map (λ row. row) r.rows)
 
--- a field: its tag, the length of its content in two bytes, high byte first, and its content
+-- a field of a file
 pub record Field : Type 0 where
   pub tag : ℕ
   pub content : List ℕ
 
+-- its bytes: its tag, the length of its content in two bytes, high byte first, and its content
 abbrev pub field_bytes : Field → List ℕ
 field_bytes f = f.tag ∷ length f.content / 256 ∷ length f.content % 256 ∷ f.content
 
+-- the field of a cell
 abbrev pub cell_field : List ℤ → Field
 cell_field zs = record { tag = 1; content = list_bytes zs }
 
+-- the field of a rule by its rows
 abbrev pub rows_field : RowsField → Field
 rows_field r = record { tag = 2; content = rows_bytes r }
 
+-- the field of a formula
 abbrev pub formula_field : Condition → Field
 formula_field c = record { tag = 3; content = text c }
 
@@ -69,6 +77,7 @@ formula_field c = record { tag = 3; content = text c }
 abbrev pub fields_of : Sheet → List Field
 fields_of s = map cell_field s.lists ++ (map rows_field s.rows ++ map formula_field s.formulas)
 
+-- the bytes of these fields, one after another
 abbrev pub bytes_of : Sheet → List ℕ
 bytes_of s = flat_map field_bytes (fields_of s)
 

@@ -21,17 +21,19 @@ pub record Contents : Type 0 where
   pub formulas : List Formula
   pub nodes : List Node
 
+-- what lent stores hold
 abbrev pub held : Stores → Contents
 held s = record { lengths = s.lengths.now; numbers = s.numbers.now; rules = s.rules.now; places = s.places.now; formulas = s.formulas.now; nodes = s.nodes.now }
 
--- zero in the stores of rules and of formulas
+-- zero in the store of rules
 abbrev pub zero_rule : RowsRule
 zero_rule = record { kind = Permitted; width = 0; cells = replicate 4 0; start = 0; count = 0 }
 
+-- zero in the store of formulas
 abbrev pub zero_formula : Formula
 zero_formula = record { root = 0; width = 0; cells = replicate 4 0 }
 
--- the published sizes
+-- every store has its published size, or more
 pub record Enough (c : Contents) : Type 0 where
   pub lengths : 64 ≤ length c.lengths
   pub numbers : 4096 ≤ length c.numbers
@@ -52,6 +54,7 @@ places_of x = flat_map (λ row. row) x.rows
 abbrev pub stored_rule_of : ℕ → RowsField → RowsRule
 stored_rule_of n x = record { kind = x.kind; width = length x.cells; cells = filled 0 4 x.cells; start = n; count = length x.rows }
 
+-- rules by rows, where the places of the first stand from n on, and those of the others after them
 abbrev pub rules_of : ℕ → List RowsField → List RowsRule
 rules_of n [] = []
 rules_of n (x ∷ xs) = stored_rule_of n x ∷ rules_of (n + length (places_of x)) xs
@@ -60,6 +63,7 @@ rules_of n (x ∷ xs) = stored_rule_of n x ∷ rules_of (n + length (places_of x
 abbrev pub formula_of : ℕ → Condition → Formula
 formula_of n c = record { root = n + size c - 1; width = length (cells_of c); cells = filled 0 4 (cells_of c) }
 
+-- formulas, where the nodes of the first stand from n on, and those of the others after them
 abbrev pub formulas_of : ℕ → List Condition → List Formula
 formulas_of n [] = []
 formulas_of n (c ∷ cs) = formula_of n c ∷ formulas_of (n + size c) cs

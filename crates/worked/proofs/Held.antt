@@ -43,10 +43,10 @@ not_refused x file before f is enough e =
 
 -- one more step
 pub make_more : (cs : List Call) (bs : List Step) (c : Call) (b : Step) → Make cs bs → (b.call ≡ c) × Enough (sizes b.buffers) → Make (cs ++ (c ∷ [])) (bs ++ (b ∷ []))
-make_more [] [] c b m p = (p.0, p.1, tt)
+make_more [] [] c b m p = (p, tt)
 make_more [] (x ∷ bs) c b m p = absurd m
 make_more (d ∷ cs) [] c b m p = absurd m
-make_more (d ∷ cs) (x ∷ bs) c b m p = (m.0, m.1, make_more cs bs c b m.2 p)
+make_more (d ∷ cs) (x ∷ bs) c b m p = (m.0, make_more cs bs c b m.1 p)
 
 pub make_at : (cs : List Call) (bs all : List Step) (i : ℕ) (d : Call) (b : Step) → i < length cs → Make (take i cs) bs → (b.call ≡ get_or cs i d) × Enough (sizes b.buffers) → all ≡ bs ++ (b ∷ []) → Make (take (i + 1) cs) all
 make_at cs bs all i d b l m p e = subst₂ Make (sym (take_more cs i d l)) (sym e) (make_more (take i cs) bs (get_or cs i d) b m p)

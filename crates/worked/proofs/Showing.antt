@@ -9,7 +9,7 @@ use Rattle.bits.proofs.Bits.{has_pow, in_below}
 use Rattle.network.specs.Book.{BookMeaning}
 use Rattle.choosers.specs.Choice.{Machine}
 use Rattle.runs.specs.declared.line.Line.{Line}
-use Rattle.runs.specs.Law.{Ready}
+use Rattle.runs.specs.Law.{Ready, Alone}
 use Rattle.cores.specs.Core.{Outcome, Outcome.left, Outcome.core}
 use Rattle.cores.specs.Fit.{Fit, Fit.fills, Fit.clashes}
 use Rattle.cores.proofs.Unique.{fit_same}
@@ -24,7 +24,7 @@ use Rattle.calls.specs.Answers.{said, returned}
 use Rattle.calls.specs.Sheet.{sheet, Sizes, Opens, passes, Enough, Judged, Judged.pins, Judged.frees, Judged.switches, Judged.fits}
 use Rattle.calls.specs.History.{Did, standing, is_on, set_where, on_after}
 use Rattle.calls.specs.Plays.{sizes, did, Makes, refused, changed, fitted, none as no_calls, more as and_more}
-use Rattle.calls.specs.Runs.{Ran, start_after, Alone, Comes, StepRuns, PlaysByRuns}
+use Rattle.calls.specs.Runs.{Ran, start_after, Comes, StepRuns, PlaysByRuns}
 use Rattle.calls.proofs.Fillings.{starts_long}
 use Rattle.calls.proofs.Following.{judged_same, said_same, values_same, did_same}
 use Rattle.calls.proofs.RunLaws.{ran_fixed}
@@ -177,9 +177,9 @@ module _ {C : Type 0} (k : Machine C) (e m : BookMeaning) (agree : Agree e m) (l
       cond_both (allowed? lengths e.count c) (then (do_call k e lengths fuel h x c) rest) None (All (Play (a ∷ after) y))
       (λ yes.
       then_all (Does a c t) (Play (a ∷ after) y) (do_call k e lengths fuel h x c) rest
-      (does c x t b a h w.0 (subst (λ z. Judged (sheet lengths m) (sizes b.buffers) z 0) (sym w.0) (judged opens c (sizes b.buffers) w.1 yes)) d)
+      (does c x t b a h w.0.0 (subst (λ z. Judged (sheet lengths m) (sizes b.buffers) z 0) (sym w.0.0) (judged opens c (sizes b.buffers) w.0.1 yes)) d)
       (λ g q.
       then_all (Play after y) (Play (a ∷ after) y) (plays k e lengths fuel cs (made c g.shown ∷ h) g.after) (add_shown g.shown)
-      (plays_sound opens cs (made c g.shown ∷ h) g.after y before after w.2 (subst₂ (λ i z. PlaysByRuns k (sheet lengths m) (i ∷ h) z before after y) q.did q.left p))
+      (plays_sound opens cs (made c g.shown ∷ h) g.after y before after w.1 (subst₂ (λ i z. PlaysByRuns k (sheet lengths m) (i ∷ h) z before after y) q.did q.left p))
       (λ r z. ((q.shows, z.0), z.1))))
       (λ no. tt)

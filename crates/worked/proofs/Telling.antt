@@ -19,7 +19,8 @@ use Rattle.sheets.specs.Sheet.{Sheet as Stated, GoodList, GoodRows, GoodFormula,
 use Rattle.sheets.specs.Meaning.{number_at}
 use Rattle.sheets.proofs.Exact.{read_unique, read_not_refused}
 use Rattle.report.specs.Report.{fits_text, clash_text}
-use Rattle.answers.specs.Answers.{usual, usual_start, FitText, unopened, fits, clashes, SheetText, Answers, too_long, faulty, read}
+use Rattle.storage.specs.Outcome.{too_long, faulty, read}
+use Rattle.answers.specs.Answers.{usual, usual_start, FitText, unopened, fits, clashes, SheetText, Answers, refused, read as read_as}
 use Rattle.worked.specs.declared.example.Example.{Example}
 use Rattle.worked.specs.declared.example.Example.TheVariants.{Opposed, LoneRule, NothingPermitted, NothingForbidden, Freed}
 use Rattle.worked.specs.Shows.{Shown, done, filled, clashed}
@@ -172,9 +173,9 @@ short NothingForbidden = omega arith
 short Freed = omega arith
 
 pub answers_worked : (x : Example) (t : List ℕ) → Answers (file_of (sheet_of x)) t → t ≡ text_of x
-answers_worked x t (too_long l) = absurd (let h = short x in omega arith)
-answers_worked x t (faulty {e = e} l r) = absurd (read_not_refused (file_of (sheet_of x)) (sheet_of x) e (record { good = good x; said = refl }) r)
-answers_worked x t (read {s = s} l r p) =
+answers_worked x t (refused (too_long l)) = absurd (let h = short x in omega arith)
+answers_worked x t (refused (faulty {e = e} l r)) = absurd (read_not_refused (file_of (sheet_of x)) (sheet_of x) e (record { good = good x; said = refl }) r)
+answers_worked x t (read_as {s = s} (read l r) p) =
     let same : s ≡ sheet_of x = read_unique (file_of (sheet_of x)) s (sheet_of x) r (record { good = good x; said = refl }) in
     told_text x t (evaluated (sheet_of x)) (tells x) (sheet_told (sheet_of x) (opened x) t (subst (λ z. SheetText z t) same p))
   where

@@ -32,17 +32,19 @@ lists =
     let three = pos 1 ∷ pos 2 ∷ pos 3 ∷ [] in
     three ∷ three ∷ three ∷ []
 
--- the sides C0, C1 and so on, and 1, 2 and so on
+-- the side C0, C1 and so on
 abbrev pub cell : ℕ → Side
 cell c = Cell c Bare
 
+-- the side 1, 2 and so on
 abbrev pub number : ℕ → Side
 number n = Number (pos n)
 
--- a sheet with these formulas, and one with one rule on C0 of no rows
+-- the sheet with these formulas
 abbrev pub with_formulas : List Condition → Sheet
 with_formulas conditions = record { lists = lists; rows = []; formulas = conditions }
 
+-- the sheet with one rule of no rows, on C0
 abbrev pub with_no_row : Kind → Sheet
 with_no_row kind = record { lists = lists; rows = record { kind = kind; cells = 0 ∷ []; rows = [] } ∷ []; formulas = [] }
 
@@ -70,10 +72,11 @@ calls_of NothingPermitted = Fit ∷ []
 calls_of NothingForbidden = Fit ∷ []
 calls_of Freed = Switch 1 false ∷ Pin 0 2 ∷ Fit ∷ Free 0 ∷ Fit ∷ []
 
--- a line of a run that found a filling, and of one that found none, by the rules listed and the rules used
+-- the line of a run that found a filling, by the rules listed
 abbrev pub met : List ℕ → Line
 met listed = record { listed = set_of listed; used = 0; verdict = Met }
 
+-- the line of a run that found none, by the rules listed and the rules used
 abbrev pub unmet : List ℕ → List ℕ → Line
 unmet listed used = record { listed = set_of listed; used = set_of used; verdict = Unmet }
 

@@ -1,5 +1,6 @@
 -- What calls show: their answers, and what a Fit wrote. Assumes nothing.
-use Rattle.std.specs.Prelude.{◌≡◌, ℕ, List, [], ◌∷◌, length, take, Some, None, vec_items}
+use Rattle.std.specs.Prelude.{◌≡◌, ℕ, List, length, take, Some, None, vec_items}
+use Rattle.std.specs.List.{AllZip}
 use Rattle.runs.specs.declared.line.Line.{Line}
 use Rattle.calls.specs.declared.call.Call.{Call}
 use Rattle.calls.specs.declared.answer.Answer.{Answer}
@@ -37,14 +38,8 @@ pub record Shows (cells : ℕ) (x : Shown) (a : Step) : Type 0 where
 
 -- each of some calls shows what stands in its place
 abbrev pub Show : ℕ → List Shown → List Step → Type 0
-Show cells [] [] = Unit {0}
-Show cells [] (a ∷ rest) = ⊥
-Show cells (x ∷ xs) [] = ⊥
-Show cells (x ∷ xs) (a ∷ rest) = Shows cells x a × Show cells xs rest
+Show cells xs after = AllZip (Shows cells) xs after
 
 -- the steps make these calls, with buffers that are long enough for a Fit
 abbrev pub Make : List Call → List Step → Type 0
-Make [] [] = Unit {0}
-Make [] (b ∷ bs) = ⊥
-Make (c ∷ cs) [] = ⊥
-Make (c ∷ cs) (b ∷ bs) = (b.call ≡ c) × Enough (sizes b.buffers) × Make cs bs
+Make cs before = AllZip (λ c b. (b.call ≡ c) × Enough (sizes b.buffers)) cs before

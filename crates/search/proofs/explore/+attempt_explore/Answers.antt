@@ -16,7 +16,7 @@ pub attempt-explore-requires : goal.attempt-explore-requires
 attempt-explore-requires g t c κs within =
     let e = c.only.ensures.one c.requires.chosen.there.0 in
     let a = subst (λ (x : ℕ). Able (set c.args.progress.now.sets.now c.args.trial.cell x) (length c.args.work.now)) (sym e) c.requires.able in (
-      try_falls c.args.progress.now.sets.now c.settle.new.self.sets.now c.args.trial.cell c.args.trial.place c.only.result t c.decreases c.requires.chosen e c.settle.ensures.less,
+      try_falls c.args.progress.now.sets.now c.settle.new.self.sets.now c.args.trial.cell c.args.trial.place c.only.result t c.decreases c.requires.chosen e c.settle.ensures.no_more,
       (within.0, (within.1, able_settled _ a (ok_says _ _ (sym c.if-is_ok.ensures.value) c.settle.ensures.law a.full) refl)),
     )
 
@@ -93,7 +93,7 @@ explore-returns-then-is_err-clause-steps g t c =
 pub explore-tries-smaller : goal.explore-tries-smaller
 explore-tries-smaller g t c =
     let b = ap (λ (x : State). x.sets) c.retreat.ensures.back ∙ ap (λ (x : List ℕ). out_of x c.in-Some.trial.cell c.in-Some.trial.place) c.keep.ensures in
-    lt_of_le_of_lt c.settle.ensures.less (out_falls _ _ _ _ c.in-Some.ensures.chosen b)
+    lt_of_le_of_lt c.settle.ensures.no_more (out_falls _ _ _ _ c.in-Some.ensures.chosen b)
 
 pub explore-tries-preserved : goal.explore-tries-preserved
 explore-tries-preserved g t c =
@@ -106,7 +106,7 @@ explore-tries-preserved g t c =
     let a = able_out c.retreat.new.progress.sets.now c.tries.invariant.2 p.chosen sets in (
       λ found y u h. c.tries.invariant.0 found y u (goes_on_with p.choice (c.if-attempt.ensures.failed refl) b
           (before (λ x n. Settles (g.B.RuleBook.meaning x) n (state_of c.retreat.new.progress) (state_of c.settle.new.self)) q (ok_says _ _ c.if-is_err.ensures.negation c.settle.ensures.steps)) (rw (w.book, w.rules) at h)),
-      le_of_lt_le c.settle.ensures.less (out_falls _ _ _ _ p.chosen sets) c.tries.invariant.1,
+      le_of_lt_le c.settle.ensures.no_more (out_falls _ _ _ _ p.chosen sets) c.tries.invariant.1,
       able_settled _ a (ok_says _ _ c.if-is_err.ensures.negation c.settle.ensures.law a.full) refl,
       kept_more c.tries.invariant.3 w,
     )

@@ -25,7 +25,7 @@ returns-in_err-sweep g c =
     let p = err_from_is_err_and c.from_residual.result c.from_residual.ensures.1 in
     let f = c.in_err-sweep.ensures in
     let a = i.1 _ _ (at_once f.steps) in
-    record { kept = kept_more i.2 f.kept; steps = rw (p.1, p.2) a; only = rw (p.1, p.2) (only_fails a); law = rw p.1 (fails_law _ _ _ c.args.self.now.suits refl a); less = fails_le _ _ _ c.args.self.now.suits refl a }
+    record { kept = kept_more i.2 f.kept; steps = rw (p.1, p.2) a; only = rw (p.1, p.2) (only_fails a); law = rw p.1 (fails_law _ _ _ c.args.self.now.suits refl a); no_more = fails_le _ _ _ c.args.self.now.suits refl a }
 
 pub returns : goal.returns
 returns g c =
@@ -37,5 +37,5 @@ returns g c =
       steps = a;
       only = only_settles a;
       law = λ full. settles_law _ _ _ c.args.self.now.suits (g.B.RuleBook.laws c.args.self.now.book.now) refl full a;
-      less = settles_le _ _ _ c.args.self.now.suits refl a;
+      no_more = settles_le _ _ _ c.args.self.now.suits refl a;
     }

@@ -1,5 +1,6 @@
 use Rattle.std.proofs.Common.{ℕ}
-use Rattle.runs.specs.Settle.{Settles, Fails, State, total}
+use Rattle.std.specs.Prelude.{sum}
+use Rattle.runs.specs.Settle.{Settles, Fails, State}
 use Rattle.settling.specs.Kept.{state_of, Kept}
 use Rattle.settling.proofs.progress.Progress.settle.Given as goal
 
@@ -13,4 +14,4 @@ invariant-loop g l =
     × Kept s l.self
 
 abbrev pub decreases-loop : goal.decreases-loop
-decreases-loop g l = total l.self.sets.now
+decreases-loop g l = sum l.self.sets.now
