@@ -2,6 +2,7 @@
 use Rattle.std.proofs.Common.{◌≡◌, ℕ, ◌+◌, ◌-◌, ◌*◌, ◌^◌, ◌<◌, ◌≤◌, eqb, ◌≢◌, List, [], ◌∷◌, length, get_or, take, Some, None, vec_items, Option, sym, refl, ap, ◌∙◌, subst, inl, inr, arith}
 use Rattle.std.proofs.lemmas.List.{length-take-le, ext_get_or}
 use Rattle.std.proofs.lemmas.Bool.{cond-true, cond-false, eq-eqb, ne_eqb, cases_eq}
+use Rattle.std.proofs.lemmas.Option.{none-some}
 use Rattle.bits.proofs.Lists.{each_map}
 use Rattle.bits.specs.Sets.{size}
 use Rattle.bits.proofs.Whole.{whole_has}
@@ -87,9 +88,6 @@ module _ {C : Type 0} (k : Machine C) (naming : Naming k) (s : Sheet) (law : Law
         }
 
 -- ---- what stands is valid
-some_none : {n : ℕ} → Some n ≡ None → ⊥
-some_none {n} e = let z : ◌≡◌ {A = ℕ} 0 1 = cc in omega arith
-
 -- after a call that is not refused, the pins are places of their lists
 valid_changed : (s : Sheet) (z : Sizes) (p : ℕ → Option ℕ) {call : Call} {n : ℕ} → Valid s.lengths p → Judged s z call n → n ≡ 0 → Valid s.lengths (λ c. pinned call c (p c))
 valid_changed s z p valid (shut x) e = absurd (omega arith)
@@ -104,7 +102,7 @@ valid_changed s z p valid (pins_no_cell o a) e = absurd (omega arith)
 valid_changed s z p valid (pins_no_place o a b) e = absurd (omega arith)
 valid_changed s z p valid (frees {cell} o a) e = record {
   listed = λ c v lt q. elim (cases_eq cell c) [
-    | inl is ↦ absurd (some_none (sym q ∙ cond-true (eqb cell c) None (p c) (eq-eqb cell c is)))
+    | inl is ↦ absurd (none-some _ (sym (cond-true (eqb cell c) None (p c) (eq-eqb cell c is)) ∙ q))
     | inr ne ↦ valid.listed c v lt (sym (cond-false (eqb cell c) None (p c) (ne_eqb cell c ne)) ∙ q)
   ];
 }
@@ -158,7 +156,7 @@ module _ {S : Type 0} (s : Sheet) (F : List Did → S → Step → Step → Valu
     plays_map valid (more d p) = more (makes_map valid d) (plays_map (valid_next valid d) p)
 
 pub none_valid : (lengths : List ℕ) → Valid lengths (standing [])
-none_valid lengths = record { listed = λ c v lt e. absurd (some_none (sym e)) }
+none_valid lengths = record { listed = λ c v lt e. absurd (none-some v e) }
 
 module _ {C : Type 0} (k : Machine C) (naming : Naming k) (s : Sheet) (law : Lawful s.book) where
   pub plays_promise : {x y : Lasting C} {before after : List Step} → Plays s (StepDone k s) [] x before after y → FillingsAndCores s before after

@@ -1,5 +1,5 @@
 -- What a core is, and in how few lines it is found. Fits a says that some filling meets the rules of the set a. Assumes nothing.
-use Rattle.std.specs.Prelude.{◌≡◌, ℕ, ◌+◌, ◌-◌, ◌*◌, ◌^◌, ◌≤◌, List, [], ◌∷◌, length}
+use Rattle.std.specs.Prelude.{◌≡◌, ℕ, ◌+◌, ◌-◌, ◌*◌, ◌^◌, ◌≤◌, List, length}
 use Rattle.std.specs.List.{AllByRecursion}
 use Rattle.bits.specs.Sets.{In, Subset, size}
 use Rattle.runs.specs.declared.line.Line.{Line}

@@ -1,6 +1,6 @@
 -- What a chooser is given of each cell: how many places remain, and the weighted degree. Assumes nothing.
-use Rattle.std.specs.Prelude.{ℕ, Bool, false, cond, not, ◌&&◌, ◌||◌, List, [], ◌∷◌, map, length, sum, ◌==◌, nat_eq, nat_lt, slice_index}
-use Rattle.std.specs.List.{range_with_len}
+use Rattle.std.specs.Prelude.{ℕ, Bool, cond, not, ◌&&◌, List, map, length, sum, ◌==◌, nat_eq, nat_lt, slice_index}
+use Rattle.std.specs.List.{range_with_len, list_any}
 use Rattle.bits.specs.Sets.{in?, size}
 use Rattle.network.specs.Book.{BookMeaning}
 use Rattle.choosers.specs.declared.chooser.Figure.{Figure}
@@ -10,14 +10,9 @@ use Rattle.runs.specs.Settle.{left_at}
 abbrev pub open? : List ℕ → ℕ → Bool
 open? sets c = nat_lt 1 (size (left_at sets c))
 
--- the test holds of some element
-abbrev pub some? : (ℕ → Bool) → List ℕ → Bool
-some? p [] = false
-some? p (x ∷ xs) = p x || some? p xs
-
 -- among a rule's cells is the cell c, and another one that is open
 abbrev pub joins? : List ℕ → ℕ → List ℕ → Bool
-joins? sets c cells = some? (λ d. nat_eq d c) cells && some? (λ d. not (d == c) && open? sets d) cells
+joins? sets c cells = list_any (λ d. nat_eq d c) cells && list_any (λ d. not (d == c) && open? sets d) cells
 
 -- what the rule r adds to the weighted degree of the cell c: its weight, if it is listed and has c and another open cell
 abbrev pub share : BookMeaning → ℕ → List ℕ → List ℕ → ℕ → ℕ → ℕ
