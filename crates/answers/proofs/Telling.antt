@@ -1,5 +1,5 @@
 -- One Fit that was played, and its text. Assumes nothing.
-use Rattle.std.proofs.Common.{◌≡◌, ℕ, suc, ◌+◌, ◌<◌, ◌≤◌, List, [], ◌∷◌, ◌++◌, length, get_or, ℤ, Some, vec_items, codes, sym, refl, ap, ◌∙◌, subst, arith}
+use Rattle.std.proofs.Common.{◌≡◌, ℕ, suc, ◌+◌, ◌<◌, ◌≤◌, List, [], ◌∷◌, ◌++◌, length, get_or, ℤ, vec_items, codes, sym, refl, ap, ◌∙◌, subst, arith}
 use Rattle.std.specs.List.{range_with_len, flat_map}
 use Rattle.std.proofs.lemmas.List.{get_or-take}
 use Rattle.choosers.specs.Choice.{Machine}
@@ -9,7 +9,7 @@ use Rattle.calls.specs.declared.call.Call.{Call}
 use Rattle.calls.specs.declared.call.Call.TheVariants.{Fit}
 use Rattle.calls.specs.declared.answer.Answer.TheVariants.{Fitted}
 use Rattle.calls.specs.declared.step.Step.{Step}
-use Rattle.calls.specs.Answers.{Said, said, returned}
+use Rattle.calls.specs.Answers.{said, returned}
 use Rattle.calls.specs.Sheet.{Sheet, cells, Sizes, Checked, passes, lists, rules, missing, Opens, Enough, Judged, Judged.fits}
 use Rattle.calls.specs.History.{Did}
 use Rattle.calls.specs.Plays.{sizes, Plays, refused, changed, fitted}

@@ -3,7 +3,7 @@ use Rattle.std.proofs.Common.{◌≡◌, ℕ, zero, suc, ◌+◌, ◌*◌, ◌/�
 use native.Mathlib.Nat.{mod-le}
 use lib.Pow.{mod-pow-add}
 use Rattle.std.proofs.lemmas.Bool.{cases_eq, cases_lt}
-use Rattle.bits.specs.Sets.{In, Subset, below, members, size}
+use Rattle.bits.specs.Sets.{Subset, below, members, size}
 use Rattle.bits.proofs.Size.{length_below, below_sub}
 
 bit_le : (a b n : ℕ) → Subset a b → a / 2 ^ n % 2 ≤ b / 2 ^ n % 2

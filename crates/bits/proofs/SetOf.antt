@@ -1,9 +1,9 @@
 -- The set of some numbers. Assumes nothing.
-use Rattle.std.proofs.Common.{◌≡◌, ℕ, zero, suc, ◌+◌, ◌-◌, ◌/◌, ◌%◌, ◌^◌, ◌<◌, ◌≤◌, List, [], ◌∷◌, ◌++◌, length, get_or, take, sym, refl, ap, ◌∙◌, subst, inl, inr, ⊎_elim, arith}
+use Rattle.std.proofs.Common.{◌≡◌, ℕ, zero, suc, ◌+◌, ◌-◌, ◌^◌, ◌<◌, ◌≤◌, List, [], ◌∷◌, ◌++◌, length, get_or, take, sym, refl, ap, ◌∙◌, subst, inl, inr, ⊎_elim, arith}
 use lib.Bits.{bit_or}
 use Rattle.std.proofs.lemmas.Bool.{cases_eq}
 use Rattle.std.proofs.lemmas.List.{take_all, take-append-le, length_push, length-take, get_or-take}
-use Rattle.bits.specs.Sets.{In, Subset, below, members, size, set_of}
+use Rattle.bits.specs.Sets.{In, Subset, below, members, set_of}
 use Rattle.bits.proofs.Bits.{has_zero, has_pow, has_left, has_right, or_has, or_subset, mark_same, pow_same, in_below}
 use Rattle.bits.proofs.Same.{set_ext}
 use Rattle.bits.proofs.Members.{has_below, member_has, below_with, below_without}

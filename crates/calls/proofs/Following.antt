@@ -1,7 +1,8 @@
 -- What is played by runs follows from the sheet, the chooser and the calls. Assumes nothing.
-use Rattle.std.proofs.Common.{◌≡◌, ℕ, ◌<◌, cond, eqb, List, [], ◌∷◌, length, get_or, take, Some, None, vec_items, Option, sym, refl, ap, ◌∙◌, subst, subst₂, arith}
+use Rattle.std.proofs.Common.{◌≡◌, ℕ, ◌<◌, cond, eqb, List, [], ◌∷◌, length, get_or, take, None, vec_items, Option, sym, refl, ap, ◌∙◌, subst, subst₂, arith}
 use Rattle.std.specs.List.{AllZip}
 use Rattle.std.proofs.lemmas.List.{length-take-le, ext_get_or}
+use Rattle.std.proofs.lemmas.Option.{none-some}
 use Rattle.choosers.specs.Choice.{Machine}
 use Rattle.cores.specs.Core.{Outcome, Outcome.left, Outcome.core}
 use Rattle.cores.proofs.Unique.{fit_same}
@@ -81,9 +82,6 @@ back NoPlace = refl
 back NoRule = refl
 back ShortBuffer = refl
 
-clear : {x : Values} → ◌≡◌ {A = Option Values} None (Some x) → ⊥
-clear e = let z : ◌≡◌ {A = ℕ} 0 1 = cc in omega arith
-
 pub refused_not_done : (r : Refusal) → number_of r ≡ 0 → ⊥
 refused_not_done Lists e = omega arith
 refused_not_done TooManyRules e = omega arith
@@ -96,13 +94,13 @@ refused_not_done ShortBuffer e = omega arith
 
 pub said_same : (p q : Answer) → said p ≡ said q → p ≡ q
 said_same Done Done e = refl
-said_same Done (Fitted f) e = absurd (clear (ap (λ (w : Said). w.values) e))
+said_same Done (Fitted f) e = absurd (none-some _ (ap (λ (w : Said). w.values) e))
 said_same Done (Refused r) e = absurd (refused_not_done r (sym (ap (λ (w : Said). w.number) e)))
-said_same (Fitted f) Done e = absurd (clear (sym (ap (λ (w : Said). w.values) e)))
+said_same (Fitted f) Done e = absurd (none-some _ (sym (ap (λ (w : Said). w.values) e)))
 said_same (Fitted f) (Fitted g) e = let v = ap (λ (w : Said). w.values) e in let z : f ≡ g = cc in ap Fitted z
-said_same (Fitted f) (Refused r) e = absurd (clear (sym (ap (λ (w : Said). w.values) e)))
+said_same (Fitted f) (Refused r) e = absurd (none-some _ (sym (ap (λ (w : Said). w.values) e)))
 said_same (Refused r) Done e = absurd (refused_not_done r (ap (λ (w : Said). w.number) e))
-said_same (Refused r) (Fitted f) e = absurd (clear (ap (λ (w : Said). w.values) e))
+said_same (Refused r) (Fitted f) e = absurd (none-some _ (ap (λ (w : Said). w.values) e))
 said_same (Refused r) (Refused q) e = ap Refused (sym (back r) ∙ ap named (ap (λ (w : Said). w.number) e) ∙ back q)
 
 -- ---- what runs come to
@@ -155,8 +153,8 @@ module _ {C : Type 0} (k : Machine C) (s : Sheet) where
   agree_plain {n} {a} {a'} call e e' = record {
     call = call;
     answer = said_same a.answer a'.answer (e ∙ sym e');
-    lines = λ f q. absurd (clear (sym (ap (λ (w : Said). w.values) e) ∙ ap (λ (w : Said). w.values) q));
-    filling = λ f q z. absurd (clear (sym (ap (λ (w : Said). w.values) e) ∙ ap (λ (w : Said). w.values) q));
+    lines = λ f q. absurd (none-some _ (sym (ap (λ (w : Said). w.values) e) ∙ ap (λ (w : Said). w.values) q));
+    filling = λ f q z. absurd (none-some _ (sym (ap (λ (w : Said). w.values) e) ∙ ap (λ (w : Said). w.values) q));
   }
 
   makes_same : {h : List Did} {x y y' : Lasting C} {b b' a a' : Step} → Alike b b' → Makes s (λ h x b a f y. StepRuns k s h x a f y) h x b a y → Makes s (λ h x b a f y. StepRuns k s h x a f y) h x b' a' y'

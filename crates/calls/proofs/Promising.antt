@@ -2,6 +2,7 @@
 use Rattle.std.proofs.Common.{◌≡◌, ℕ, ◌+◌, ◌-◌, ◌*◌, ◌^◌, ◌<◌, ◌≤◌, eqb, ◌≢◌, List, [], ◌∷◌, length, get_or, take, Some, None, vec_items, Option, sym, refl, ap, ◌∙◌, subst, inl, inr, arith}
 use Rattle.std.proofs.lemmas.List.{length-take-le, ext_get_or}
 use Rattle.std.proofs.lemmas.Bool.{cond-true, cond-false, eq-eqb, ne_eqb, cases_eq}
+use Rattle.std.proofs.lemmas.Option.{none-some}
 use Rattle.bits.proofs.Lists.{each_map}
 use Rattle.bits.specs.Sets.{size}
 use Rattle.network.specs.Book.{Lawful}
@@ -125,7 +126,7 @@ valid_changed s z p valid (pins_no_cell o a) e = absurd (omega arith)
 valid_changed s z p valid (pins_no_place o a b) e = absurd (omega arith)
 valid_changed s z p valid (frees {cell} o a) e = record {
   listed = λ c v lt q. elim (cases_eq cell c) [
-    | inl is ↦ absurd (some_none (sym q ∙ cond-true (eqb cell c) None (p c) (eq-eqb cell c is)))
+    | inl is ↦ absurd (none-some _ (sym (cond-true (eqb cell c) None (p c) (eq-eqb cell c is)) ∙ q))
     | inr ne ↦ valid.listed c v lt (sym (cond-false (eqb cell c) None (p c) (ne_eqb cell c ne)) ∙ q)
   ];
 }
@@ -179,7 +180,7 @@ module _ {S : Type 0} (s : Sheet) (F : List Did → S → Step → Step → Valu
     plays_map valid (more d p) = more (makes_map valid d) (plays_map (valid_next valid d) p)
 
 pub none_valid : (lengths : List ℕ) → Valid lengths (standing [])
-none_valid lengths = record { listed = λ c v lt e. absurd (some_none (sym e)) }
+none_valid lengths = record { listed = λ c v lt e. absurd (none-some v e) }
 
 module _ {C : Type 0} (k : Machine C) (naming : Naming k) (s : Sheet) (law : Lawful s.book) where
   pub plays_promise : {x y : Lasting C} {before after : List Step} → Plays s (StepDone k s) [] x before after y → FillingsAndCores s before after

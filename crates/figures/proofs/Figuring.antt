@@ -1,30 +1,13 @@
 -- Figures, cell by cell and rule by rule. Assumes nothing.
-use Rattle.std.proofs.Common.{◌≡◌, ℕ, ◌+◌, ◌<◌, ◌≤◌, Bool, true, false, not, ◌&&◌, ◌||◌, eqb, ◌≢◌, List, [], ◌∷◌, ◌++◌, length, get_or, take, set, sym, refl, ap, ◌∙◌, ap₂, inl, inr, arith}
+use Rattle.std.proofs.Common.{◌≡◌, ℕ, ◌+◌, ◌<◌, ◌≤◌, Bool, true, false, not, ◌&&◌, ◌||◌, eqb, ◌≢◌, List, length, get_or, take, set, sym, refl, ap, ◌∙◌, ap₂, inl, inr, arith}
+use mathlib.Core.Bool.{or-false}
 use Rattle.std.specs.List.{list_any}
-use Rattle.std.proofs.lemmas.List.{take_more, take_all, get_or-set_same, get_or-set_other}
-use Rattle.std.proofs.lemmas.Bool.{cases_eq, eq-eqb, ne_eqb}
+use Rattle.std.proofs.lemmas.List.Folds.{list_any_more}
+use Rattle.std.proofs.lemmas.List.{take_all, get_or-set_same, get_or-set_other}
+use Rattle.std.proofs.lemmas.Bool.{cases_eq, eq-eqb, ne_eqb, or_right}
 use Rattle.choosers.specs.declared.chooser.Figure.{Figure}
 use Rattle.choosers.specs.Choice.{no_figure}
 use Rattle.runs.specs.Figures.{open?, joins?}
-
-or_assoc : (a b c : Bool) → (a || (b || c)) ≡ ((a || b) || c)
-or_assoc true b c = refl
-or_assoc false b c = refl
-
-or_none : (a : Bool) → (a || false) ≡ a
-or_none true = refl
-or_none false = refl
-
-or_all : (a : Bool) → (a || true) ≡ true
-or_all true = refl
-or_all false = refl
-
-some_push : (p : ℕ → Bool) (xs : List ℕ) (x : ℕ) → list_any p (xs ++ x ∷ []) ≡ (list_any p xs || p x)
-some_push p [] x = or_none (p x)
-some_push p (y ∷ xs) x = ap (λ (b : Bool). p y || b) (some_push p xs x) ∙ or_assoc (p y) (list_any p xs) (p x)
-
-some_more : (p : ℕ → Bool) (xs : List ℕ) (i d : ℕ) → i < length xs → list_any p (take (i + 1) xs) ≡ (list_any p (take i xs) || p (get_or xs i d))
-some_more p xs i d h = ap (list_any p) (take_more xs i d h) ∙ some_push p (take i xs) (get_or xs i d)
 
 -- ---- the cells of a rule, one more: it is the cell c, or another
 module _ (sets : List ℕ) (c : ℕ) (cells : List ℕ) (i d : ℕ) (l : i < length cells) (at : d ≡ get_or cells i 255) where
@@ -35,23 +18,23 @@ module _ (sets : List ℕ) (c : ℕ) (cells : List ℕ) (i d : ℕ) (l : i < len
   Elsewhere n = list_any (λ x. not (eqb x c) && open? sets x) (take n cells)
 
   here_step : (b : Bool) → b ≡ eqb d c → Here (i + 1) ≡ (Here i || b)
-  here_step b e = some_more (λ x. eqb x c) cells i 255 l ∙ ap (λ (x : Bool). Here i || x) (sym (e ∙ ap (λ (x : ℕ). eqb x c) at))
+  here_step b e = list_any_more (λ x. eqb x c) cells i 255 l ∙ ap (λ (x : Bool). Here i || x) (sym (e ∙ ap (λ (x : ℕ). eqb x c) at))
 
   elsewhere_step : (b : Bool) → b ≡ (not (eqb d c) && open? sets d) → Elsewhere (i + 1) ≡ (Elsewhere i || b)
   elsewhere_step b e =
-      some_more (λ x. not (eqb x c) && open? sets x) cells i 255 l ∙ ap (λ (x : Bool). Elsewhere i || x) (sym (e ∙ ap (λ (x : ℕ). not (eqb x c) && open? sets x) at))
+      list_any_more (λ x. not (eqb x c) && open? sets x) cells i 255 l ∙ ap (λ (x : Bool). Elsewhere i || x) (sym (e ∙ ap (λ (x : ℕ). not (eqb x c) && open? sets x) at))
 
   pub same_cell : d ≡ c → {h h' e e' : Bool} → h ≡ Here i → e ≡ Elsewhere i → h' ≡ true → e' ≡ e → (h' ≡ Here (i + 1)) × (e' ≡ Elsewhere (i + 1))
   same_cell q {h} {h'} {e} {e'} p r s t =
       let k : eqb d c ≡ true = eq-eqb d c q in (
-        s ∙ sym (here_step true (sym k) ∙ or_all (Here i)),
-        t ∙ r ∙ sym (elsewhere_step false (ap (λ (x : Bool). not x && open? sets d) (sym k)) ∙ or_none (Elsewhere i)),
+        s ∙ sym (here_step true (sym k) ∙ or_right (Here i) true refl),
+        t ∙ r ∙ sym (elsewhere_step false (ap (λ (x : Bool). not x && open? sets d) (sym k)) ∙ or-false (Elsewhere i)),
       )
 
   pub other_cell : d ≢ c → {h h' e e' o : Bool} → h ≡ Here i → e ≡ Elsewhere i → o ≡ open? sets d → h' ≡ h → e' ≡ (e || o) → (h' ≡ Here (i + 1)) × (e' ≡ Elsewhere (i + 1))
   other_cell q {h} {h'} {e} {e'} {o} p r u s t =
       let k : eqb d c ≡ false = ne_eqb d c q in (
-        s ∙ p ∙ sym (here_step false (sym k) ∙ or_none (Here i)),
+        s ∙ p ∙ sym (here_step false (sym k) ∙ or-false (Here i)),
         t ∙ ap₂ (λ (x y : Bool). x || y) r refl ∙ sym (elsewhere_step o (u ∙ ap (λ (x : Bool). not x && open? sets d) (sym k))),
       )
 

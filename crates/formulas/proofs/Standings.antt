@@ -5,7 +5,7 @@ use Rattle.formulas.specs.declared.node.Node.{Node}
 use Rattle.formulas.specs.declared.node.Node.TheVariants.{Free, Compare, Not, And, Or}
 use Rattle.formulas.specs.Tree.{Condition, compares, negates, all, any, Conditions, one, more}
 use Rattle.formulas.specs.Truth.{truth, all_true, any_true, related, worth}
-use Rattle.formulas.specs.Layout.{size, list_size, layout, list_layout, Stands, StandsAll, Standing}
+use Rattle.formulas.specs.Layout.{size, list_size, layout, list_layout, Stands, StandsAll}
 use Rattle.formulas.proofs.Layouts.{size_layout, size_list, size_some, list_some}
 
 -- nodes p ++ layout ++ q, with n nodes in p

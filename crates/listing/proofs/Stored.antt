@@ -1,5 +1,5 @@
 -- What is written of the stores and the file is the sheet's text. Assumes nothing.
-use Rattle.std.proofs.Common.{◌≡◌, ℕ, zero, suc, ◌+◌, ◌-◌, ◌*◌, ◌^◌, ◌<◌, ◌≤◌, min, List, [], ◌∷◌, ◌++◌, map, length, get_or, take, drop, replicate, ℤ, pos, sym, refl, ap, ◌∙◌, ap₂, ⊎_elim, append_assoc, suc-mul, zero-mul, arith, length-append}
+use Rattle.std.proofs.Common.{◌≡◌, ℕ, ◌+◌, ◌-◌, ◌*◌, ◌^◌, ◌<◌, ◌≤◌, min, List, [], ◌∷◌, ◌++◌, map, length, take, drop, replicate, ℤ, pos, sym, refl, ap, ◌∙◌, ap₂, ⊎_elim, append_assoc, arith, length-append}
 use lib.ListN.{length-map}
 use Rattle.std.specs.List.{range_with_len, flat_map, AllByRecursion}
 use Rattle.std.proofs.lemmas.List.FromFn.{fill_by_all}
@@ -13,7 +13,7 @@ use Rattle.sheets.specs.declared.stores.Extent.{Extent}
 use Rattle.sheets.specs.Sheet.{Sheet, RowsField, Field, GoodList, GoodRows, cell_field, rows_field, formula_field, field_bytes, fields_of, file_of}
 use Rattle.sheets.specs.Stored.{Contents, filled, places_of, stored_rule_of, rules_of}
 use Rattle.sheets.proofs.Storing.{length_rules}
-use Rattle.sheets.proofs.Wide.{Wide, run, row_part}
+use Rattle.sheets.proofs.Wide.{Wide, row_part}
 use Rattle.sheet_books.specs.Books.{Holds}
 use Rattle.sheets.proofs.Filled.{length_filled}
 use Rattle.sheet_books.proofs.Parts.{filled_take}

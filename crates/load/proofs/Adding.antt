@@ -1,5 +1,5 @@
 -- What the stores hold after one more field. Assumes nothing.
-use Rattle.std.proofs.Common.{◌≡◌, ℕ, suc, ◌+◌, ◌-◌, ◌*◌, ◌<◌, ◌≤◌, List, [], ◌∷◌, ◌++◌, map, length, get_or, take, drop, set, replicate, ℤ, pos, sym, ap, ◌∙◌, suc-mul, zero-mul, arith, length-append, take-append-drop}
+use Rattle.std.proofs.Common.{◌≡◌, ℕ, ◌+◌, ◌-◌, ◌*◌, ◌<◌, ◌≤◌, List, [], ◌∷◌, ◌++◌, map, length, take, drop, set, replicate, ℤ, pos, sym, ap, ◌∙◌, arith, length-append, take-append-drop}
 use borrow.Rule.Slice.PartMut.{put_mid}
 use lib.ListN.{length-map}
 use Rattle.std.specs.List.{flat_map}

@@ -2,7 +2,7 @@
 use Rattle.std.proofs.Common.{◌≡◌, ℕ, zero, suc, ◌+◌, ◌*◌, ◌/◌, ◌%◌, ◌<◌, ◌≤◌, Bool, false, List, [], ◌∷◌, ◌++◌, map, length, get_or, take, drop, ℤ, Decides, sym, refl, ap, ◌∙◌, subst, mul-le-mul_right, suc-mul, zero-add, mul-div_cancel, arith, length-append}
 use native.Mathlib.Nat.{mul-mod_left}
 use Rattle.std.specs.List.{flat_map}
-use Rattle.std.proofs.lemmas.List.{append-nil, nil_from_length, take-append-drop, drop-drop, length-drop, length-take-le, length-map, get_or-map, take_at, drop_at}
+use Rattle.std.proofs.lemmas.List.{append-nil, nil_from_length, take-append-drop, drop-drop, length-drop, length-take-le, length-map, get_or-map}
 use Rattle.std.proofs.lemmas.Bool.Decides.{not_from_Decides}
 use Rattle.rows.specs.declared.rule.Kind.{Kind}
 use Rattle.rows.specs.declared.rule.RowsRule.{RowsRule}

@@ -25,7 +25,7 @@ use Rattle.reader.specs.Stores.{Room}
 use Rattle.reader.specs.Read.{outside, ReadOne, FirstOf}
 use Rattle.reader.proofs.Refusals.{told}
 use Rattle.reader.proofs.Places.{ahead_in}
-use Rattle.reader.specs.declared.unread.Unread.TheVariants.{NoRoom, Fault}
+use Rattle.reader.specs.declared.unread.Unread.TheVariants.{Fault}
 use Rattle.reader.specs.Formula.{ReadFormula, Fits, NotRead, fault, Decided}
 use Rattle.reader.proofs.Cells.{mentioned_layout}
 

@@ -1,7 +1,7 @@
 -- The calls among some lines, line by line. Assumes nothing.
 use Rattle.std.proofs.Common.{◌≡◌, List, [], ◌∷◌, ◌++◌, Some, None, Option, sym, refl, ap, ◌∙◌, append-nil}
 use mathlib.Core.List.{map-append}
-use Rattle.std.specs.List.{cons_option, AllByRecursion}
+use Rattle.std.specs.List.{cons_option}
 use Rattle.bits.proofs.Lists.{each_push}
 use Rattle.calls.specs.declared.call.Call.{Call}
 use Rattle.calls.specs.declared.step.Step.{Step}

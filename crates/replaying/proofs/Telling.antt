@@ -1,13 +1,11 @@
 -- What is told of some lines, line by line, and session by session. Assumes nothing.
-use Rattle.std.proofs.Common.{◌≡◌, ℕ, ◌+◌, ◌<◌, ◌≤◌, Bool, true, false, List, [], ◌∷◌, ◌++◌, length, get_or, take, drop, sym, refl, ap, ◌∙◌, subst, append_assoc, append-nil, add-one, arith}
+use Rattle.std.proofs.Common.{◌≡◌, ℕ, ◌+◌, ◌<◌, ◌≤◌, Bool, true, false, List, [], ◌∷◌, ◌++◌, length, get_or, take, drop, sym, refl, ap, ◌∙◌, subst, append-nil, add-one, arith}
 use Rattle.std.proofs.Math.Seq.{drop-cons}
 use Rattle.std.proofs.lemmas.List.{take_more, take_all, drop_all, length-take-le, take-append-drop}
-use Rattle.calls.specs.declared.call.Call.{Call}
 use Rattle.calls.specs.declared.step.Step.{Step}
 use Rattle.script.specs.declared.line.Line.{Line}
 use Rattle.script.specs.declared.line.Line.TheVariants.{Blank, Call as CallLine, Turn, NotUnderstood}
 use Rattle.sheets.specs.Sheet.{Sheet as Stated}
-use Rattle.replaying.specs.Lines.{not_understood, answer_text}
 use Rattle.replaying.specs.Sessions.{told}
 use Rattle.replaying.specs.Replays.{stays, AllStay, TurnedText, Sessions, next}
 

@@ -1,9 +1,9 @@
 -- Lines one after another. Assumes nothing.
-use Rattle.std.proofs.Common.{◌≡◌, ℕ, ◌+◌, Bool, true, false, cond, List, [], ◌∷◌, ◌++◌, sym, refl, ap, ◌∙◌, append_assoc, append-nil, map-id, add-one, arith}
+use Rattle.std.proofs.Common.{◌≡◌, ℕ, ◌+◌, Bool, true, false, cond, List, [], ◌∷◌, ◌++◌, sym, refl, ap, ◌∙◌, append_assoc, append-nil, add-one}
 use Rattle.std.specs.List.{range_with_len, flat_map}
 use Rattle.std.proofs.lemmas.List.{flat_map_more}
 use Rattle.std.proofs.lemmas.List.Concat.{flat_map-append}
-use Rattle.std.proofs.lemmas.List.FromFn.{map-range_with_len_more}
+use Rattle.bits.proofs.Lists.{range_push}
 use Rattle.bits.specs.Sets.{in?, below, members}
 
 -- the first line, and then the others
@@ -34,10 +34,7 @@ rules_all f s = refl
 -- the lines of the first cells, cell by cell
 pub cells_more : (f : ℕ → List ℕ) (n : ℕ) (start was now : List ℕ) → was ≡ start ++ flat_map f (range_with_len 0 n) → now ≡ was ++ f n → now ≡ start ++ flat_map f (range_with_len 0 (n + 1))
 cells_more f n start was now p q =
-    q ∙ ap (λ l. l ++ f n) p ∙ flat_map_more f start (range_with_len 0 n) n ∙ ap (λ l. start ++ flat_map f l) (counted n)
-  where
-    counted : (n : ℕ) → range_with_len 0 n ++ (n ∷ []) ≡ range_with_len 0 (n + 1)
-    counted n = ap (λ l. l ++ (n ∷ [])) (sym (map-id (range_with_len 0 n))) ∙ sym (map-range_with_len_more (λ (x : ℕ). x) 0 n n (omega arith)) ∙ map-id (range_with_len 0 (n + 1))
+    q ∙ ap (λ l. l ++ f n) p ∙ flat_map_more f start (range_with_len 0 n) n ∙ ap (λ l. start ++ flat_map f l) (sym (range_push n))
 
 pub cells_none : (f : ℕ → List ℕ) (start : List ℕ) → start ≡ start ++ flat_map f (range_with_len 0 0)
 cells_none f start = sym (append-nil start)

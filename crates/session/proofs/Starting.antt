@@ -1,23 +1,18 @@
 -- The steps of the loops around a Fit. Assumes nothing.
-use Rattle.std.proofs.Common.{◌≡◌, ℕ, zero, suc, ◌+◌, ◌^◌, ◌<◌, Bool, true, false, cond, List, [], ◌∷◌, ◌++◌, length, get_or, drop, set, filter, sym, refl, ap, ◌∙◌, subst, inl, inr, add-one, arith}
+use Rattle.std.proofs.Common.{◌≡◌, ℕ, ◌+◌, ◌^◌, ◌<◌, Bool, true, false, cond, List, [], ◌∷◌, ◌++◌, length, get_or, drop, set, filter, sym, refl, ap, ◌∙◌, subst, inl, inr, arith}
 use lib.Bits.{bit_or}
 use Rattle.std.specs.List.{range_with_len}
 use Rattle.std.proofs.lemmas.List.Elements.{filter-append}
 use Rattle.std.proofs.lemmas.List.{append-nil, drop-set-lt, get_or-set_same, get_or-set_other}
 use Rattle.std.proofs.lemmas.Bool.{cases_eq}
 use Rattle.bits.specs.Sets.{set_of}
+use Rattle.bits.proofs.Lists.{range_push}
 use Rattle.bits.proofs.SetOf.{set_push}
 use Rattle.calls.specs.History.{set_where}
 use Rattle.session.specs.Pins.{LowestByte}
 
-counting_push : (a n : ℕ) → range_with_len a (suc n) ≡ range_with_len a n ++ (a + n) ∷ []
-counting_push a zero = ap (λ (x : ℕ). x ∷ []) (let e : a ≡ a + 0 = omega arith in e)
-counting_push a (suc n) = ap (λ (xs : List ℕ). a ∷ xs) (counting_push (a + 1) n ∙ ap (λ (x : ℕ). range_with_len (a + 1) n ++ x ∷ []) (let e : a + 1 + n ≡ a + suc n = omega arith in e))
-
 where_push : (p : ℕ → Bool) (n : ℕ) → set_where p (n + 1) ≡ set_of (filter p (range_with_len 0 n) ++ cond (p n) (n ∷ []) [])
-where_push p n =
-    let z : 0 + n ≡ n = omega arith in
-    ap (set_where p) (add-one n) ∙ ap (λ (xs : List ℕ). set_of (filter p xs)) (counting_push 0 n ∙ ap (λ (x : ℕ). range_with_len 0 n ++ x ∷ []) z) ∙ ap set_of (filter-append p (range_with_len 0 n) (n ∷ []))
+where_push p n = ap (λ (xs : List ℕ). set_of (filter p xs)) (range_push n) ∙ ap set_of (filter-append p (range_with_len 0 n) (n ∷ []))
 
 pub where_on : (p : ℕ → Bool) (n : ℕ) → p n ≡ true → set_where p (n + 1) ≡ bit_or (set_where p n) (2 ^ n)
 where_on p n e = where_push p n ∙ ap (λ (b : Bool). set_of (filter p (range_with_len 0 n) ++ cond b (n ∷ []) [])) e ∙ set_push (filter p (range_with_len 0 n)) n

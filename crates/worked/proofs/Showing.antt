@@ -1,9 +1,8 @@
 -- Every play of some calls shows what the evaluation gives, and leaves what it gives. Assumes nothing.
-use Rattle.std.proofs.Common.{◌≡◌, ℕ, zero, suc, ◌/◌, ◌^◌, ◌<◌, ◌≤◌, ◌≢◌, Bool, true, ◌&&◌, List, [], ◌∷◌, length, get_or, map, take, Some, None, Option, vec_items, nat_lt, sym, refl, ap, ◌∙◌, subst, subst₂, inl, inr, arith, pow_mono}
-use Rattle.std.proofs.lemmas.Bool.{cond_both, ltb-true, and_parts, cases_eq, cases_lt}
+use Rattle.std.proofs.Common.{◌≡◌, ℕ, zero, suc, ◌^◌, ◌<◌, ◌≢◌, Bool, true, ◌&&◌, List, [], ◌∷◌, length, get_or, map, take, Some, None, Option, vec_items, nat_lt, sym, refl, ap, ◌∙◌, subst, subst₂, inl, inr, arith}
+use Rattle.std.proofs.lemmas.Bool.{cond_both, ltb-true, and_parts, cases_eq}
 use Rattle.std.proofs.lemmas.List.{length-take-le, ext_get_or, get_or-map}
 use lib.ListN.{length-map}
-use native.Mathlib.Nat.{div-eq_of_lt}
 use Rattle.bits.specs.Sets.{In}
 use Rattle.bits.proofs.Bits.{has_pow, in_below}
 use Rattle.network.specs.Book.{BookMeaning}
@@ -17,7 +16,6 @@ use Rattle.clash.specs.declared.fitted.Fitted.{Fitted as Values}
 use Rattle.clash.specs.Running.{Lasting}
 use Rattle.calls.specs.declared.call.Call.{Call}
 use Rattle.calls.specs.declared.call.Call.TheVariants.{Pin, Free, Switch, Fit as AFit}
-use Rattle.calls.specs.declared.answer.Answer.{Answer}
 use Rattle.calls.specs.declared.answer.Answer.TheVariants.{Done, Fitted}
 use Rattle.calls.specs.declared.step.Step.{Step}
 use Rattle.calls.specs.Answers.{said, returned}

@@ -1,5 +1,6 @@
 -- What fit prints for the worked sheets. Assumes nothing.
 use Rattle.std.proofs.Common.{◌≡◌, ℕ, zero, suc, ◌+◌, ◌<◌, ◌≤◌, ◌≢◌, true, List, [], ◌∷◌, length, get_or, map, Some, None, Option, pos, sym, refl, ap, ◌∙◌, subst, arith}
+use Rattle.std.proofs.lemmas.Option.{none-some, same_Some}
 use Rattle.std.specs.Prelude.{unsigned_abs}
 use Rattle.bits.specs.Sets.{below, members, set_of}
 use Rattle.network.specs.Book.{BookMeaning}
@@ -39,26 +40,20 @@ told s (clashed lines core) = clash_text (length lines) core
 same_values : {f g : Values} → Fitted f ≡ Fitted g → f ≡ g
 same_values e = cc
 
-no_core : {c : ℕ} {o : Option ℕ} → o ≡ None → o ≡ Some c → ⊥
-no_core p q = let z : ◌≡◌ {A = ℕ} 0 1 = cc in omega arith
-
-same_core : {c d : ℕ} {o : Option ℕ} → o ≡ Some c → o ≡ Some d → c ≡ d
-same_core p q = cc
-
 told_fits : (s : Stated) (m : BookMeaning) (a : Step) (f : Values) (x : Shown) → FitShows (length (map length s.lists)) a f x → f.core ≡ None
     → fits_text f.lines (length (map length s.lists)) (λ c. number_at s.lists c (get_or (filling_of (sheet (map length s.lists) m) a) c 0)) ≡ told s x
 told_fits s m a f done p e = absurd (let z : ◌≡◌ {A = ℕ} 0 1 = let q = p.values in cc in omega arith)
 told_fits s m a f (filled lines g) p e =
     ap (λ (v : Values). fits_text v.lines (length (map length s.lists)) (λ c. number_at s.lists c (get_or (filling_of (sheet (map length s.lists) m) a) c 0))) (same_values p.values)
     ∙ ap (λ h. fits_text (length lines) (length (map length s.lists)) (λ c. number_at s.lists c (get_or h c 0))) p.written.1
-told_fits s m a f (clashed lines core) p e = absurd (no_core e (ap (λ (v : Values). v.core) (same_values p.values)))
+told_fits s m a f (clashed lines core) p e = absurd (none-some core (sym e ∙ ap (λ (v : Values). v.core) (same_values p.values)))
 
 told_clashes : (s : Stated) (a : Step) (f : Values) (core : ℕ) (x : Shown) → FitShows (length (map length s.lists)) a f x → f.core ≡ Some core → clash_text f.lines core ≡ told s x
 told_clashes s a f core done p e = absurd (let z : ◌≡◌ {A = ℕ} 0 1 = let q = p.values in cc in omega arith)
-told_clashes s a f core (filled lines g) p e = absurd (no_core (ap (λ (v : Values). v.core) (same_values p.values)) e)
+told_clashes s a f core (filled lines g) p e = absurd (none-some core (sym (ap (λ (v : Values). v.core) (same_values p.values)) ∙ e))
 told_clashes s a f core (clashed lines c) p e =
     let v = same_values p.values in
-    ap (λ (w : Values). clash_text w.lines core) v ∙ ap (clash_text (length lines)) (same_core e (ap (λ (w : Values). w.core) v))
+    ap (λ (w : Values). clash_text w.lines core) v ∙ ap (clash_text (length lines)) (same_Some core c (sym e ∙ ap (λ (w : Values). w.core) v))
 
 -- an open session is not refused
 not_refused : (s : Sheet) (n : ℕ) → Opens s → n ≢ 0 → Checked s n → ⊥
