@@ -1,4 +1,4 @@
--- A search goes on with what it was lent. Assumes nothing.
+-- What a search for a core was lent is the same after each part of it, and its log grows by the lines of that part. Assumes nothing.
 use Rattle.std.proofs.Common.{◌≡◌, ◌+◌, ◌<◌, List, ◌∷◌, [], ◌++◌, length, set, refl, sym, ◌∙◌, subst}
 use Rattle.runs.specs.declared.line.Line.{Line}
 use Rattle.clash.specs.declared.runner.Runner.{Ghosts}

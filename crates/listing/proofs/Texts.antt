@@ -1,4 +1,4 @@
--- Lines written piece by piece. Assumes nothing.
+-- The loops that write lines and rows: one more of them, and all of them. Assumes nothing.
 use Rattle.std.proofs.Common.{◌≡◌, ℕ, ◌+◌, ◌<◌, ◌≤◌, List, [], ◌∷◌, ◌++◌, map, length, get_or, take, sym, ap, ◌∙◌, append_assoc, append-nil, arith}
 use lib.ListN.{length-map}
 use Rattle.std.specs.List.{range_with_len}

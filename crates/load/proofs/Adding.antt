@@ -1,4 +1,4 @@
--- What the stores hold after one more field. Assumes nothing.
+-- Where the stores hold a sheet, and a list, a rule by rows or a rule by a formula is written after it, they hold the sheet with that added. Assumes nothing.
 use Rattle.std.proofs.Common.{◌≡◌, ℕ, ◌+◌, ◌-◌, ◌*◌, ◌<◌, ◌≤◌, List, [], ◌∷◌, ◌++◌, map, length, take, drop, set, replicate, ℤ, pos, sym, ap, ◌∙◌, arith, length-append, take-append-drop}
 use borrow.Rule.Slice.PartMut.{put_mid}
 use lib.ListN.{length-map}

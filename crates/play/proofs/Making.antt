@@ -1,4 +1,4 @@
--- One call after some calls. Assumes nothing.
+-- A call that a session makes is one call of the relation, and its table then holds what follows from the calls so far. Assumes nothing.
 use Rattle.std.proofs.Common.{◌≡◌, ℕ, zero, suc, ◌+◌, ◌<◌, Bool, false, cond, eqb, ltb, ◌≢◌, List, ◌∷◌, map, length, get_or, set, Some, None, Ok, Err, vec_items, vec_len, filter, Option, Result, sym, refl, ap, ◌∙◌, subst, ap₂, subst₂, inl, inr, arith, length-set}
 use Rattle.std.specs.List.{range_with_len}
 use Rattle.std.proofs.lemmas.List.{get_or-set_same, get_or-set_other}

@@ -1,4 +1,4 @@
--- Calls one after another. Assumes nothing.
+-- The loop over the calls: those made and those to come are one play of them all. Assumes nothing.
 use Rattle.std.proofs.Common.{◌≡◌, ℕ, ◌+◌, ◌<◌, ◌≤◌, Bool, true, false, List, [], ◌∷◌, ◌++◌, length, get_or, take, drop, set, replicate, None, Option, sym, refl, ap, ◌∙◌, subst₂, arith}
 use Rattle.std.proofs.lemmas.List.{append-nil, append_assoc, take_more, take_more_set, take_all, drop_more, drop-set-lt, drop-drop, get_or-replicate}
 use Rattle.clash.specs.declared.fitted.Fitted.{Fitted as Values}

@@ -1,4 +1,4 @@
--- Tries, from what the code writes. Assumes nothing.
+-- Why tries come to an end, and which step of the relation each way through the code of a try is. Assumes nothing.
 use Rattle.std.proofs.Common.{◌≡◌, ℕ, ◌+◌, ◌-◌, ◌*◌, ◌^◌, ◌<◌, ◌≤◌, Bool, true, false, ◌≢◌, Ok, Err, Result, MatchResult, is_ok, List, get_or, set, sym, refl, ap, subst, inl, inr, arith, length-set}
 use Rattle.std.specs.Prelude.{sum}
 use Rattle.std.proofs.lemmas.Bool.{cases_eq, false≢true, true≢false}

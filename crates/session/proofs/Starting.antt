@@ -1,4 +1,4 @@
--- The steps of the loops around a Fit. Assumes nothing.
+-- The loops before and after the runs of a Fit: one more rule that is on, and one more byte of the filling. Assumes nothing.
 use Rattle.std.proofs.Common.{◌≡◌, ℕ, ◌+◌, ◌^◌, ◌<◌, Bool, true, false, cond, List, [], ◌∷◌, ◌++◌, length, get_or, drop, set, filter, sym, refl, ap, ◌∙◌, subst, inl, inr, arith}
 use lib.Bits.{bit_or}
 use Rattle.std.specs.List.{range_with_len}
