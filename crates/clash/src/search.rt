@@ -35,9 +35,9 @@ impl<T: Runner<C>, C> CoreSearch<'_, '_, T, C> {
         ensures logs { self.new.log.now ≡ slice_set self.old.log.now self.old.lines result }
         ensures counts { self.new.lines ≡ self.old.lines + 1 }
     {
-        let Some(line) =
-            self.runner
-                .run(self.chooser, self.weights, listed, self.work, self.sets)
+        let Some(line) = self
+            .runner
+            .run(self.chooser, self.weights, listed, self.work, self.sets)
         else {
             unreachable!()
         };
