@@ -78,11 +78,14 @@ fn clear(stores: &mut Stores<'_>)
 
 /// Reads a sheet file into the stores. It is read exactly if it is the file of a good sheet, which then stands in the stores, and they are zero past it.
 /// Otherwise it is refused with its first fault, and the stores are zero; untouched where the file is too long or a store too small.
+/// No file is that of two sheets (`one`), so the sheet that stands in the stores is the one meant.
+#[tactic(auto, using(sheets::proofs::Exact::read_unique))]
 pub fn load(file: &[u8], stores: &mut Stores<'_>) -> Result<Extent, LoadFault>
     ensures loads { MatchResult result
         (λ e. ReadSheet file.now (held stores.old) (held stores.new) e)
         (λ e. Refused file.now (held stores.old) (held stores.new) e) }
     ensures exact { Exact file.now (held stores.old) result }
+    ensures one { (s t : Sheet) → ReadAs file.now s → ReadAs file.now t → s ≡ t }
 {
     if file.len() > FILE || !are_enough(stores) {
         return Err(LoadFault::Size);

@@ -1,6 +1,8 @@
 //! Whole formulas.
 ghost use Rattle.std.specs.Prelude.{◌≡◌, ℕ, ◌+◌, ◌-◌, ◌≤◌, ◌++◌, length, take, replicate, Decides, MatchResult};
 ghost use Rattle.formulas.specs.declared.node.Node.TheVariants.{Free};
+ghost use Rattle.formulas.specs.Tree.{Condition};
+ghost use Rattle.formulas.specs.Faults.{Accepted};
 ghost use Rattle.reader.specs.Places.{FirstIn};
 ghost use Rattle.reader.specs.Stores.{Kept, Room};
 ghost use Rattle.reader.specs.Mentions.{Found, named_from};
@@ -29,8 +31,9 @@ pub struct Formula {
 }
 
 /// Reads a formula on the first `cells` cells, and stores its nodes from `used` on. Refused, it leaves the nodes below `used` as they were and the
-/// others free; where the store cannot take it, that is untouched.
+/// others free; where the store cannot take it, that is untouched. No text is that of two conditions (`one`), so the condition read is the one meant.
 // The host lends the nodes, so the caller keeps them with a count of those taken.
+#[tactic(auto, using(formulas::proofs::Exact::accepted_unique))]
 pub fn read(
     bytes: &[u8],
     cells: u8,
@@ -41,6 +44,7 @@ pub fn read(
         (λ f. ReadFormula cells bytes.now nodes.old used.old nodes.new used.new f)
         (λ e. NotRead cells bytes.now nodes.old used.old nodes.new used.new e) }
     ensures exact { Decided cells bytes.now nodes.old used.old result }
+    ensures one { (c d : Condition) → Accepted cells bytes.now c → Accepted cells bytes.now d → c ≡ d }
 {
     if !can_take(nodes, *used, bytes) {
         return Err(Unread::NoRoom);

@@ -36,6 +36,7 @@ returns-in-Ok c =
         refuses = λ _ e r. absurd (read_not_refused c.args.file.now k.decided.0 e k.decided.1 r);
         unsized = λ n. absurd (n sized);
       };
+      one = read_unique c.args.file.now;
     }
 
 pub returns-in-Err : goal.returns-in-Err
@@ -50,4 +51,5 @@ returns-in-Err c =
         refuses = λ _ e r. ap Err (refused_unique c.args.file.now c.in-Err.fault e k.decided r);
         unsized = λ n. absurd (n sized);
       };
+      one = read_unique c.args.file.now;
     }
