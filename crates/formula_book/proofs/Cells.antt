@@ -3,7 +3,7 @@ use Rattle.std.proofs.Common.{◌≡◌, ℕ, ◌<◌, ◌≤◌, List, length, 
 use Rattle.std.proofs.lemmas.List.{get_or_past, ext_get_or, get_or-take, length-take-le}
 use Rattle.formulas.specs.declared.node.Node.{Node}
 use Rattle.reader.specs.declared.formula.Formula.{Formula}
-use Rattle.formula_book.specs.Formulas.{Fit, WellFormed, cells_of, no_formula}
+use Rattle.formula_book.specs.Formulas.{GoodRule, WellFormed, cells_of, no_formula}
 use Rattle.formula_book.specs.FormulaLaws.{width_of, cell_of}
 
 module _ (fs : List Formula) (r : ℕ) where
@@ -25,8 +25,8 @@ module _ (fs : List Formula) (r : ℕ) where
       cell_past h = sym (get_or_past cells k 255 (omega (arith, width_here)))
 
 -- a formula that is there is fit
-pub there_fit : {ns : List Node} {fs : List Formula} → WellFormed ns fs → (r : ℕ) (f : Formula) → r < length fs → f ≡ get_or fs r no_formula → Fit ns f
-there_fit {ns} ok r f h is = subst (λ x. Fit ns x) (sym is) (ok.each r h)
+pub there_fit : {ns : List Node} {fs : List Formula} → WellFormed ns fs → (r : ℕ) (f : Formula) → r < length fs → f ≡ get_or fs r no_formula → GoodRule ns f
+there_fit {ns} ok r f h is = subst (λ x. GoodRule ns x) (sym is) (ok.each r h)
 
 -- its cells are the first of those that it has room for
 pub cells_first : (f : Formula) → f.width ≤ length f.cells → take f.width f.cells ≡ cells_of f

@@ -6,13 +6,13 @@ use Rattle.network.specs.Tries.{Allows, Tried}
 use Rattle.network.proofs.Supports.{supported_row, row_tried}
 use Rattle.formulas.specs.declared.node.Node.{Node}
 use Rattle.reader.specs.declared.formula.Formula.{Formula}
-use Rattle.formula_book.specs.Formulas.{Lists, Fit, cells_of, listed, permits_of, rule_of}
+use Rattle.formula_book.specs.Formulas.{Lists, GoodRule, cells_of, listed, permits_of, rule_of}
 use Rattle.formula_book.specs.FormulaLaws.{width_of, cell_of}
 use Rattle.formula_book.specs.Support.{ListedOf}
 use Rattle.formula_book.proofs.Cut.{tried_with}
 use Rattle.formula_book.proofs.Listed.{listed_decides}
 
-module _ (l : Lists) (ns : List Node) (f : Formula) (fit : Fit ns f) (i v : ℕ) (within : i < f.width)
+module _ (l : Lists) (ns : List Node) (f : Formula) (fit : GoodRule ns f) (i v : ℕ) (within : i < f.width)
     (sets allowed masks : List ℕ) (four : length allowed ≡ 4) (allows : Allows f.cells i v sets allowed)
     (also_four : length masks ≡ 4) (listed_of : ListedOf l.lengths f.cells allowed masks) where
   wide : length (cells_of f) ≡ f.width

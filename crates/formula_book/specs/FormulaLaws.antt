@@ -12,7 +12,7 @@ use Rattle.network.specs.Book.{Lawful, Sound}
 use Rattle.formulas.specs.declared.node.Node.{Node}
 use Rattle.reader.specs.declared.formula.Formula.{Formula}
 use Rattle.formula_book.specs.Trees.{grounded}
-use Rattle.formula_book.specs.Formulas.{Lists, Fit, WellFormed, cells_of, rule_of, formula_book, no_formula}
+use Rattle.formula_book.specs.Formulas.{Lists, GoodRule, WellFormed, cells_of, rule_of, formula_book, no_formula}
 
 -- a stored formula has as many cells as its width says
 pub width_of : (f : Formula) → length (cells_of f) ≡ f.width
@@ -41,7 +41,7 @@ well_formed {ns} {fs} ok = record {
 }
 
 -- they are good where the formula is fit
-sound : (l : Lists) (ns : List Node) (f : Formula) → Fit ns f → Sound (rule_of l ns f)
+sound : (l : Lists) (ns : List Node) (f : Formula) → GoodRule ns f → Sound (rule_of l ns f)
 sound l ns f fit =
     let w = width_of f in
     record {

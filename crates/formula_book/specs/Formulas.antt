@@ -61,12 +61,12 @@ abbrev pub MeansCondition : Lists → Condition → Rule → Type 0
 MeansCondition l c rule = (row : List ℕ) → rule.permits row ≡ (listed l rule.cells row && truth (assigned l unset rule.cells row) c)
 
 -- good cells, and a root from which only nodes of a formula are met
-pub record Fit (ns : List Node) (f : Formula) : Type 0 where
+pub record GoodRule (ns : List Node) (f : Formula) : Type 0 where
   pub good : GoodCells f.width f.cells
   pub inside : f.root < length ns
   pub rooted : grounded (suc f.root) ns f.root ≡ true
 
--- at most 65,535 formulas, each of them fit
+-- at most 65,535 formulas, each of them good
 pub record WellFormed (ns : List Node) (fs : List Formula) : Type 0 where
   pub few : length fs ≤ 65535
-  pub each : (r : ℕ) → r < length fs → Fit ns (slice_index_or fs r no_formula)
+  pub each : (r : ℕ) → r < length fs → GoodRule ns (slice_index_or fs r no_formula)

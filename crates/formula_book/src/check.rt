@@ -3,7 +3,7 @@ ghost use Rattle.std.specs.Prelude.{◌≡◌, ℕ, suc, ◌<◌, true, [], leng
 ghost use Rattle.formulas.specs.Tree.{Condition};
 ghost use Rattle.formulas.specs.Layout.{Stands};
 ghost use Rattle.formula_book.specs.Trees.{child, grounded};
-ghost use Rattle.formula_book.specs.Formulas.{WellFormed, Fit, MeansCondition, formula_book, no_formula};
+ghost use Rattle.formula_book.specs.Formulas.{WellFormed, GoodRule, MeansCondition, formula_book, no_formula};
 ghost use Rattle.formula_book.specs.Support.{lists_of};
 
 use crate::book::FormulaBook;
@@ -54,7 +54,7 @@ pub fn is_well_formed(nodes: &[Node], formulas: &[Formula]) -> bool
 
 /// Whether the cells of a formula are good, and its root stands for a condition.
 fn is_fit(nodes: &[Node], formula: &Formula) -> bool
-    ensures { Decides result (Fit nodes.now formula.now) }
+    ensures { Decides result (GoodRule nodes.now formula.now) }
 {
     formula.width <= 4
         && are_good(&formula.cells[..formula.width as usize])

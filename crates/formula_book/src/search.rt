@@ -1,6 +1,6 @@
 //! Rows of one formula: which it permits.
 ghost use Rattle.std.specs.Prelude.{◌≡◌, ℕ, ◌<◌, length, slice_index};
-ghost use Rattle.formula_book.specs.Formulas.{Fit, assigned, number_at, permits_of, unset};
+ghost use Rattle.formula_book.specs.Formulas.{GoodRule, assigned, number_at, permits_of, unset};
 ghost use Rattle.formula_book.specs.Support.{lists_of};
 
 use crate::book::FormulaBook;
@@ -11,7 +11,7 @@ use reader::formula::Formula;
 impl<'a> FormulaBook<'a> {
     /// Whether a formula permits a row: each place is of its cell's list, and at the numbers there the formula is true.
     pub(crate) fn permits(&self, formula: &Formula, row: &[u8]) -> bool
-        requires { Fit self.now.nodes.now formula.now }
+        requires { GoodRule self.now.nodes.now formula.now }
         ensures { result ≡ permits_of (lists_of self.now.lengths.now self.now.numbers.now) self.now.nodes.now formula.now row.now }
     {
         let cells = &formula.cells[..formula.width as usize];

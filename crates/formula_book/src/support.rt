@@ -1,7 +1,7 @@
 //! The formula book as a rule book.
 ghost use Rattle.std.specs.Prelude.{◌≡◌, ℕ, ◌<◌, ◌≤◌, ◌↔◌, length, slice_index, slice_index_or, MatchOption};
 ghost use Rattle.bits.specs.Sets.{In};
-ghost use Rattle.formula_book.specs.Formulas.{Fit, formula_book, no_formula};
+ghost use Rattle.formula_book.specs.Formulas.{GoodRule, formula_book, no_formula};
 ghost use Rattle.formula_book.specs.FormulaLaws.{formula_lawful};
 ghost use Rattle.formula_book.specs.Support.{ListedOf, lists_of};
 
@@ -15,7 +15,7 @@ use reader::formula::Formula;
 impl<'a> FormulaBook<'a> {
     /// The formula of a number.
     fn find(&self, rule: u16) -> Option<&'a Formula>
-        ensures { MatchOption result (length self.now.formulas.now ≤ rule) (λ f. (f.now ≡ slice_index_or self.now.formulas.now rule no_formula) × Fit self.now.nodes.now f.now) }
+        ensures { MatchOption result (length self.now.formulas.now ≤ rule) (λ f. (f.now ≡ slice_index_or self.now.formulas.now rule no_formula) × GoodRule self.now.nodes.now f.now) }
     {
         self.formulas.get(rule as usize)
     }

@@ -2,7 +2,7 @@
 use Rattle.std.proofs.Common.{◌≡◌, ℕ, ◌<◌, ◌≤◌, List, length, get_or, sym, ap, ◌∙◌, subst, arith}
 use Rattle.std.proofs.lemmas.List.{get_or_past}
 use Rattle.rows.specs.declared.rule.RowsRule.{RowsRule}
-use Rattle.rows.specs.Rows.{Fit, WellFormed, no_rows, rule_of}
+use Rattle.rows.specs.Rows.{GoodRule, WellFormed, no_rows, rule_of}
 use Rattle.rows.specs.RowsLaws.{width_of, cell_of}
 
 module _ (bytes : List ℕ) (rules : List RowsRule) (r : ℕ) where
@@ -24,5 +24,5 @@ module _ (bytes : List ℕ) (rules : List RowsRule) (r : ℕ) where
       cell_past h = sym (get_or_past cells k 255 (omega (arith, width_here)))
 
 -- a rule that is there is fit
-pub there_fit : {bytes : List ℕ} {rules : List RowsRule} → WellFormed rules bytes → (r : ℕ) (rule : RowsRule) → r < length rules → rule ≡ get_or rules r no_rows → Fit rule (length bytes)
-there_fit {bytes} ok r rule h is = subst (λ x. Fit x (length bytes)) (sym is) (ok.each r h)
+pub there_fit : {bytes : List ℕ} {rules : List RowsRule} → WellFormed rules bytes → (r : ℕ) (rule : RowsRule) → r < length rules → rule ≡ get_or rules r no_rows → GoodRule rule (length bytes)
+there_fit {bytes} ok r rule h is = subst (λ x. GoodRule x (length bytes)) (sym is) (ok.each r h)

@@ -8,7 +8,7 @@ use Rattle.network.proofs.Supports.{supported_row, row_tried}
 use Rattle.rows.specs.declared.rule.Kind.{Kind}
 use Rattle.rows.specs.declared.rule.Kind.TheVariants.{Permitted, Forbidden}
 use Rattle.rows.specs.declared.rule.RowsRule.{RowsRule}
-use Rattle.rows.specs.Rows.{Fit, row_at, stores, permits_of, rule_of}
+use Rattle.rows.specs.Rows.{GoodRule, row_at, stores, permits_of, rule_of}
 use Rattle.rows.specs.RowsLaws.{width_of, cell_of}
 use Rattle.rows.specs.Support.{row_in, Unstored}
 use Rattle.rows.proofs.Rows.{stores_decides, stored, count_is, row_is}
@@ -18,7 +18,7 @@ module _ (bytes : List ℕ) (rule : RowsRule) where
   abbrev of_kind : Kind → Rule
   of_kind kind = record { cells = (rule_of bytes rule).cells; permits = permits_of kind bytes rule }
 
-module _ (bytes : List ℕ) (rule : RowsRule) (fit : Fit rule (length bytes)) (i v : ℕ) (within : i < rule.width)
+module _ (bytes : List ℕ) (rule : RowsRule) (fit : GoodRule rule (length bytes)) (i v : ℕ) (within : i < rule.width)
     (sets masks : List ℕ) (four : length masks ≡ 4) (allows : Allows rule.cells i v sets masks) where
   wide : length (rule_of bytes rule).cells ≡ rule.width
   wide = width_of bytes rule

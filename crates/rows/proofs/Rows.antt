@@ -9,7 +9,7 @@ use Rattle.std.proofs.lemmas.Bool.Decides.{Decides-below_or, Decides-like, Decid
 use Rattle.rows.specs.declared.rule.Kind.{Kind}
 use Rattle.rows.specs.declared.rule.Kind.TheVariants.{Permitted, Forbidden}
 use Rattle.rows.specs.declared.rule.RowsRule.{RowsRule}
-use Rattle.rows.specs.Rows.{Fit, place_at, row_at, among, stores, permits_of, Permits}
+use Rattle.rows.specs.Rows.{GoodRule, place_at, row_at, among, stores, permits_of, Permits}
 use Rattle.rows.specs.Support.{row_in}
 
 module _ (bytes : List ℕ) (rule : RowsRule) where
@@ -26,7 +26,7 @@ module _ (bytes : List ℕ) (rule : RowsRule) where
       (λ j. bytes_eq-Decides (row_at bytes rule j) row) refl (λ _. refl) rule.count
 
 -- the rows of a rule that is fit, as they stand
-module _ (bytes : List ℕ) (rule : RowsRule) (fit : Fit rule (length bytes)) where
+module _ (bytes : List ℕ) (rule : RowsRule) (fit : GoodRule rule (length bytes)) where
   abbrev pub stored : List ℕ
   stored = take (rule.count * rule.width) (drop rule.start bytes)
 

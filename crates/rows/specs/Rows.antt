@@ -13,14 +13,14 @@ abbrev pub no_rows : RowsRule
 no_rows = record { kind = Permitted; width = 0; cells = []; start = 0; count = 0 }
 
 -- the cells of the rule are good, and its rows end within so many bytes
-pub record Fit (rule : RowsRule) (bytes : ℕ) : Type 0 where
+pub record GoodRule (rule : RowsRule) (bytes : ℕ) : Type 0 where
   pub good : GoodCells rule.width rule.cells
   pub inside : rule.start + rule.count * rule.width ≤ bytes
 
--- at most 65,535 rules, each of them fit
+-- at most 65,535 rules, each of them good
 pub record WellFormed (rules : List RowsRule) (bytes : List ℕ) : Type 0 where
   pub few : length rules ≤ 65535
-  pub each : (r : ℕ) → r < length rules → Fit (slice_index_or rules r no_rows) (length bytes)
+  pub each : (r : ℕ) → r < length rules → GoodRule (slice_index_or rules r no_rows) (length bytes)
 
 -- the place that row j of a rule has at position k: the rows stand one after another, one byte a place
 abbrev pub place_at : List ℕ → RowsRule → ℕ → ℕ → ℕ

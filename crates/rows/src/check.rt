@@ -1,6 +1,6 @@
 //! Which stores make a rows book.
 ghost use Rattle.std.specs.Prelude.{◌≡◌, ℕ, ◌+◌, ◌*◌, ◌<◌, ◌≤◌, List, [], length, Decides, slice_index_or};
-ghost use Rattle.rows.specs.Rows.{WellFormed, Fit, Permits, rows_book, no_rows};
+ghost use Rattle.rows.specs.Rows.{WellFormed, GoodRule, Permits, rows_book, no_rows};
 
 use crate::book::RowsBook;
 use crate::rule::RowsRule;
@@ -31,7 +31,7 @@ pub fn is_well_formed(rules: &[RowsRule], bytes: &[u8]) -> bool
 
 /// Whether the cells of a rule are good, and its rows are among so many bytes.
 fn is_fit(rule: &RowsRule, bytes: usize) -> bool
-    ensures { Decides result (Fit rule.now bytes) }
+    ensures { Decides result (GoodRule rule.now bytes) }
 {
     rule.width <= 4
         && are_good(&rule.cells[..rule.width as usize])

@@ -1,6 +1,6 @@
 //! The rows book as a rule book.
 ghost use Rattle.std.specs.Prelude.{◌≡◌, ◌*◌, ◌≤◌, length, take, drop, slice_index_or, MatchOption};
-ghost use Rattle.rows.specs.Rows.{Fit, no_rows, rows_book};
+ghost use Rattle.rows.specs.Rows.{GoodRule, no_rows, rows_book};
 ghost use Rattle.rows.specs.RowsLaws.{rows_lawful};
 
 use crate::book::RowsBook;
@@ -12,7 +12,7 @@ use network::tries::allowed;
 
 /// The rows that a rule stores, one after another.
 fn stored_rows<'a>(rule: &RowsRule, bytes: &'a [u8]) -> &'a [u8]
-    requires { Fit rule.now (length bytes.now) }
+    requires { GoodRule rule.now (length bytes.now) }
     ensures { result.now ≡ take (rule.now.count * rule.now.width) (drop rule.now.start bytes.now) }
 {
     let start = rule.start as usize;
@@ -22,7 +22,7 @@ fn stored_rows<'a>(rule: &RowsRule, bytes: &'a [u8]) -> &'a [u8]
 impl<'a> RowsBook<'a> {
     /// The rule of a number.
     fn find(&self, rule: u16) -> Option<&'a RowsRule>
-        ensures { MatchOption result (length self.now.rules.now ≤ rule) (λ r. (r.now ≡ slice_index_or self.now.rules.now rule no_rows) × Fit r.now (length self.now.bytes.now)) }
+        ensures { MatchOption result (length self.now.rules.now ≤ rule) (λ r. (r.now ≡ slice_index_or self.now.rules.now rule no_rows) × GoodRule r.now (length self.now.bytes.now)) }
     {
         self.rules.get(rule as usize)
     }

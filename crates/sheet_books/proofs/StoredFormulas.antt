@@ -14,7 +14,7 @@ use Rattle.reader.specs.declared.formula.Formula.{Formula}
 use Rattle.judge.specs.Trees.{tree}
 use Rattle.judge.proofs.Trees.{below, stands_true}
 use Rattle.formula_book.specs.Trees.{child, node_grounded, grounded}
-use Rattle.formula_book.specs.Formulas.{no_formula, Lists, assigned, unset, listed, rule_of, Fit, WellFormed}
+use Rattle.formula_book.specs.Formulas.{no_formula, Lists, assigned, unset, listed, rule_of, GoodRule, WellFormed}
 use Rattle.formula_book.specs.Support.{lists_of}
 use Rattle.sheets.specs.Sheet.{GoodFormula}
 use Rattle.sheets.specs.Stored.{formula_of, formulas_of, nodes_of}
@@ -97,7 +97,7 @@ module _ (lists : List (List ℤ)) (short : Short lists) (few : length lists ≤
     stands : Stands nodes (there.start + size is - 1) is
     stands = laid_out is there.start there.before there.after nodes there.long there.said
 
-    fit : Fit nodes (formula_of there.start is)
+    fit : GoodRule nodes (formula_of there.start is)
     fit = record {
       good = cells_good (cells_of is) (length lists) few good_at.some good_at.few (cells_known (length lists) is good_at.known) (cells_apart is);
       inside =
@@ -126,5 +126,5 @@ module _ (lists : List (List ℤ)) (short : Short lists) (few : length lists ≤
     few = omega (arith, length_formulas 0 cs);
     each = λ r h.
         let h' : r < length cs = omega (arith, length_formulas 0 cs) in
-        subst (Fit nodes) (sym (there r h').is) (fit r h');
+        subst (GoodRule nodes) (sym (there r h').is) (fit r h');
   }

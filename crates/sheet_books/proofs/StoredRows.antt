@@ -11,7 +11,7 @@ use Rattle.bits.proofs.Lists.{each_at}
 use Rattle.rows.specs.declared.rule.Kind.{Kind}
 use Rattle.rows.specs.declared.rule.Kind.TheVariants.{Permitted, Forbidden}
 use Rattle.rows.specs.declared.rule.RowsRule.{RowsRule}
-use Rattle.rows.specs.Rows.{no_rows, Fit, WellFormed, place_at, row_at, stores, permits_of, rule_of}
+use Rattle.rows.specs.Rows.{no_rows, GoodRule, WellFormed, place_at, row_at, stores, permits_of, rule_of}
 use Rattle.rows.proofs.Rows.{stores_decides}
 use Rattle.sheets.specs.Sheet.{RowsField, GoodRows}
 use Rattle.sheets.specs.Stored.{places_of, stored_rule_of, rules_of}
@@ -107,7 +107,7 @@ module _ (lists : List (List ℤ)) (xs : List RowsField) (q : List ℕ) (few : l
         let t = there r h' in
         let g = good_at r h' in
         let x = get_or xs r no_field in
-        subst (λ y. Fit y (length bytes)) (sym t.is) (record {
+        subst (λ y. GoodRule y (length bytes)) (sym t.is) (record {
           good = cells_good x.cells (length lists) few g.some g.few g.known g.apart;
           inside = inside x t.start t.before t.after bytes t.long t.said (λ i k. (g.rows i k).wide);
         });
