@@ -1,9 +1,9 @@
 -- Support in a turned book. Assumes nothing.
-use Rattle.std.proofs.Common.{◌≡◌, ℕ, ◌-◌, ◌<◌, ◌≤◌, Bool, true, false, cond, List, reverse, length, get_or, sym, refl, ap, ◌∙◌, subst, ⊎_elim, arith}
+use Rattle.std.proofs.Common.{◌≡◌, ℕ, ◌-◌, ◌<◌, ◌≤◌, Bool, true, false, cond, List, reverse, length, get_or, sym, refl, ap, ◌∙◌, subst, arith}
 use Rattle.std.proofs.lemmas.List.{length-reverse, reverse-reverse, get_or-reverse, get_or_past}
-use Rattle.std.proofs.lemmas.Bool.{cond_both, cases_lt}
+use Rattle.std.proofs.lemmas.Bool.{cond_both}
 use Rattle.network.specs.BookLaws.{reversed_at}
-use Rattle.network.specs.Book.{Rule, BookMeaning, Lawful, Supported, reversed}
+use Rattle.network.specs.Book.{Rule, Supported, reversed}
 use Rattle.network.specs.Made.{SamePosition}
 
 -- b is a with its cells and its rows last to first

@@ -1,5 +1,5 @@
 -- What a rule book means, its laws, and when a place has support. Assumes nothing.
-use Rattle.std.specs.Prelude.{◌≡◌, ℕ, ◌+◌, ◌-◌, ◌<◌, ◌≤◌, min, Bool, true, false, cond, ◌&&◌, List, [], reverse, length, get_or, ◌≢◌, nat_lt, slice_index, slice_index_or}
+use Rattle.std.specs.Prelude.{◌≡◌, ℕ, ◌+◌, ◌-◌, ◌<◌, ◌≤◌, min, Bool, true, false, cond, ◌&&◌, List, [], reverse, length, ◌≢◌, nat_lt, slice_index, slice_index_or}
 use Rattle.bits.specs.Sets.{In}
 
 -- a rule: the cells that it joins, in order, and which rows it permits; a row has a place for each of these cells, in the same order
@@ -35,7 +35,7 @@ pub record Supported (rule : Rule) (i v : ℕ) (sets : List ℕ) : Type 0 where
   pub wide : length row ≡ length rule.cells
   pub within : i < length rule.cells
   pub permitted : rule.permits row ≡ true
-  pub here : get_or row i 64 ≡ v
+  pub here : slice_index_or row i 64 ≡ v
   pub remain : (k : ℕ) → k < length rule.cells → Remains sets (slice_index_or rule.cells k 255) (slice_index_or row k 64)
 
 -- a rule that is missing

@@ -1,5 +1,5 @@
 -- How books made of other books go with these: the fillings that meet a whole book, and positions. Assumes nothing.
-use Rattle.std.specs.Prelude.{◌≡◌, ℕ, ◌-◌, ◌<◌, ◌↔◌, List, get_or, slice_index_or}
+use Rattle.std.specs.Prelude.{◌≡◌, ℕ, ◌-◌, ◌<◌, ◌↔◌, List, slice_index_or}
 use Rattle.network.specs.Book.{BookMeaning, Rule, Supported}
 use Rattle.network.specs.Fillings.{Meets}
 
@@ -25,5 +25,5 @@ SameMet m b = (r : ℕ) (f : List ℕ) → Meets (b.rule r) f ↔ Meets (m.rule 
 
 -- position i of a rule goes with position j of another: the same cell, and support for the same places
 pub record SamePosition (rule : Rule) (i : ℕ) (other : Rule) (j : ℕ) : Type 0 where
-  pub cell : get_or rule.cells i 255 ≡ slice_index_or other.cells j 255
+  pub cell : slice_index_or rule.cells i 255 ≡ slice_index_or other.cells j 255
   pub support : (v : ℕ) (sets : List ℕ) → Supported rule i v sets ↔ Supported other j v sets

@@ -1,7 +1,7 @@
 //! The text that tells a Fit's answer. Uses `bits`, `formulas` and `text`.
 #![tactic(auto)]
 
-ghost use Rattle.std.specs.Prelude.{◌≡◌, ℕ, ◌+◌, ◌*◌, ◌<◌, [], ◌++◌, get_or, pos, if◌then◌else◌, OnOk, slice_index, slice_index_or, string_bytes};
+ghost use Rattle.std.specs.Prelude.{◌≡◌, ℕ, ◌+◌, ◌*◌, ◌<◌, [], ◌++◌, pos, if◌then◌else◌, OnOk, slice_index, slice_index_or, string_bytes};
 ghost use Rattle.bits.specs.Sets.{in?};
 ghost use Rattle.report.specs.Report.{cell_line, fits_text, rule_line, clash_text};
 
@@ -42,7 +42,7 @@ pub fn push_fits(
     numbers: &[i32],
     filling: &[u8],
 ) -> Result<(), AllocError>
-    ensures { OnOk result (string_bytes out.new ≡ string_bytes out.old ++ fits_text lines cells (λ c. get_or numbers.now (64 * c + slice_index filling.now c) (pos 0))) }
+    ensures { OnOk result (string_bytes out.new ≡ string_bytes out.old ++ fits_text lines cells (λ c. slice_index_or numbers.now (64 * c + slice_index filling.now c) (pos 0))) }
 {
     writeln!(out, "FITS {lines}")?;
     for cell in 0..cells {

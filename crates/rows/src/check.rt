@@ -1,5 +1,5 @@
 //! Which stores make a rows book.
-ghost use Rattle.std.specs.Prelude.{◌≡◌, ℕ, ◌+◌, ◌*◌, ◌<◌, ◌≤◌, List, [], length, get_or, Decides, slice_index_or};
+ghost use Rattle.std.specs.Prelude.{◌≡◌, ℕ, ◌+◌, ◌*◌, ◌<◌, ◌≤◌, List, [], length, Decides, slice_index_or};
 ghost use Rattle.rows.specs.Rows.{WellFormed, Fit, Permits, rows_book, no_rows};
 
 use crate::book::RowsBook;
@@ -13,7 +13,7 @@ impl<'a> RowsBook<'a> {
         ensures taken { WellFormed rules.now bytes.now → result.rules.now ≡ rules.now }
         ensures refused { (WellFormed rules.now bytes.now → ⊥) → result.rules.now ≡ [] }
         ensures bytes { result.bytes.now ≡ bytes.now }
-        ensures means { (k : ℕ) (row : List ℕ) → Decides (((rows_book result.rules.now result.bytes.now).rule k).permits row) (Permits (get_or result.rules.now k no_rows).kind result.bytes.now (slice_index_or result.rules.now k no_rows) row) }
+        ensures means { (k : ℕ) (row : List ℕ) → Decides (((rows_book result.rules.now result.bytes.now).rule k).permits row) (Permits (slice_index_or result.rules.now k no_rows).kind result.bytes.now (slice_index_or result.rules.now k no_rows) row) }
     {
         if is_well_formed(rules, bytes) {
             return RowsBook { rules, bytes };

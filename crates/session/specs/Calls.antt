@@ -1,5 +1,5 @@
 -- What a session is, and what the single calls change. Assumes nothing.
-use Rattle.std.specs.Prelude.{◌≡◌, ℕ, true, false, ◌≢◌, List, length, get_or, replicate, Some, None, slice_index, slice_index_or, slice_set}
+use Rattle.std.specs.Prelude.{◌≡◌, ℕ, true, false, ◌≢◌, List, length, replicate, Some, None, slice_index, slice_index_or, slice_set}
 use Rattle.network.specs.Book.{BookMeaning}
 use Rattle.choosers.specs.Choice.{Machine}
 use Rattle.runs.specs.declared.line.Line.{Line}
@@ -59,7 +59,7 @@ abbrev pub table_start : List ℕ → Table → List ℕ
 table_start lengths t = starts lengths (λ c. held (slice_index lengths c) (slice_index_or t.pins c None))
 
 abbrev pub table_on : BookMeaning → Table → ℕ
-table_on m t = set_where (λ r. get_or t.switches r false) m.count
+table_on m t = set_where (λ r. slice_index_or t.switches r false) m.count
 
 -- a Fit that is not refused: its runs change the chooser and the weights alone, and it returns what they come to, which is a filling or a core as promised
 pub record Solved {B C : Type 0} (meaning : B → BookMeaning) (k : Machine C) (s : Session B C) (log : List Line) (filling : List ℕ) (f : Values) (t : Session B C) (log' : List Line) (filling' : List ℕ) : Type 0 where
