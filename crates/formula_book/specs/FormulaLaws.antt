@@ -1,17 +1,12 @@
 -- Proofs that well-formed stores keep the laws of a rule book. Assumes nothing.
 -- They stand in specs/ since the laws of a type may cite nothing else of its own crate. The check proves them, so no reader has to believe them.
-use Rattle.std.specs.Prelude.{◌≡◌, ℕ, suc, ◌<◌, List, length, get_or, slice_index, slice_index_or}
-use Rattle.std.proofs.Common.{sym, ap, ◌∙◌, ⊎_elim, arith}
-use Rattle.std.proofs.Math.Logic.{∥∥₁_elim}
-use mathlib.Core.HLevel.{⊥_prop}
-use Rattle.std.proofs.Math.Bridge.{le_prop}
+use Rattle.std.specs.Prelude.{◌≡◌, ℕ, ◌<◌, List, length, slice_index, slice_index_or}
+use Rattle.std.proofs.Common.{sym, ap, ◌∙◌, arith}
 use Rattle.std.proofs.lemmas.List.{get_or_past}
-use Rattle.std.proofs.lemmas.Bool.{cases_Bool, both_ways}
 use Rattle.std.proofs.lemmas.List.FromFn.{length-map-range_with_len, get_or-map-range_with_len}
 use Rattle.network.specs.Book.{Lawful, Sound}
 use Rattle.formulas.specs.declared.node.Node.{Node}
 use Rattle.reader.specs.declared.formula.Formula.{Formula}
-use Rattle.formula_book.specs.Trees.{grounded}
 use Rattle.formula_book.specs.Formulas.{Lists, GoodRule, WellFormed, cells_of, rule_of, formula_book, no_formula}
 
 -- a stored formula has as many cells as its width says
@@ -22,25 +17,7 @@ width_of f = length-map-range_with_len (λ k. slice_index f.cells k) 0 f.width
 pub cell_of : (f : Formula) (k d : ℕ) → k < f.width → slice_index_or (cells_of f) k d ≡ slice_index f.cells k
 cell_of f k d h = get_or-map-range_with_len (λ j. slice_index f.cells j) 0 f.width k k d h (omega arith)
 
--- stores that are somehow known to be well formed are so
-pub well_formed : {ns : List Node} {fs : List Formula} → ∥ WellFormed ns fs ∥₁ → WellFormed ns fs
-well_formed {ns} {fs} ok = record {
-  few = ∥∥₁_elim ok le_prop (λ w. w.few);
-  each = λ r h.
-      let f = get_or fs r no_formula in
-      record {
-        good = record {
-          some = ∥∥₁_elim ok le_prop (λ w. (w.each r h).good.some);
-          few = ∥∥₁_elim ok le_prop (λ w. (w.each r h).good.few);
-          small = λ k l. ∥∥₁_elim ok le_prop (λ w. (w.each r h).good.small k l);
-          apart = λ j k l m e. ∥∥₁_elim ok ⊥_prop (λ w. (w.each r h).good.apart j k l m e);
-        };
-        inside = ∥∥₁_elim ok le_prop (λ w. (w.each r h).inside);
-        rooted = ⊎_elim (λ t. t) (λ e. absurd (∥∥₁_elim ok ⊥_prop (λ w. both_ways _ e (w.each r h).rooted))) (cases_Bool (grounded (suc f.root) ns f.root));
-      };
-}
-
--- they are good where the formula is fit
+-- they are good where the stored formula is
 sound : (l : Lists) (ns : List Node) (f : Formula) → GoodRule ns f → Sound (rule_of l ns f)
 sound l ns f fit =
     let w = width_of f in
@@ -57,9 +34,9 @@ sound l ns f fit =
     }
 
 -- the book of well-formed stores is lawful
-pub formula_lawful : (l : Lists) (ns : List Node) (fs : List Formula) → ∥ WellFormed ns fs ∥₁ → Lawful (formula_book l ns fs)
+pub formula_lawful : (l : Lists) (ns : List Node) (fs : List Formula) → WellFormed ns fs → Lawful (formula_book l ns fs)
 formula_lawful l ns fs ok = record {
-  bounded = (well_formed ok).few;
-  sound = λ r h. sound l ns (slice_index_or fs r no_formula) ((well_formed ok).each r h);
+  bounded = ok.few;
+  sound = λ r h. sound l ns (slice_index_or fs r no_formula) (ok.each r h);
   missing = λ r h. ap cells_of (get_or_past fs r no_formula h);
 }

@@ -43,7 +43,7 @@ impl<'a> FormulaBook<'a> {
 impl<'a> RuleBook for FormulaBook<'a> {
     ghost meaning = { λ b. formula_book (lists_of b.lengths.now b.numbers.now) b.nodes.now b.formulas.now };
 
-    ghost laws = { λ b. formula_lawful (lists_of b.lengths.now b.numbers.now) b.nodes.now b.formulas.now ∣ b.ok ∣₁ };
+    ghost laws = { λ b. formula_lawful (lists_of b.lengths.now b.numbers.now) b.nodes.now b.formulas.now b.ok };
 
     fn count(&self) -> u16 {
         self.formulas.len() as u16

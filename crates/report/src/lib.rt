@@ -1,7 +1,7 @@
 //! The text that tells a Fit's answer. Uses `bits`, `formulas` and `text`.
 #![tactic(auto)]
 
-ghost use Rattle.std.specs.Prelude.{◌≡◌, ℕ, ◌+◌, ◌*◌, ◌<◌, [], ◌++◌, get_or, pos, if◌then◌else◌, OnOk, slice_index, slice_index_or, string_bytes};
+ghost use Rattle.std.specs.Prelude.{◌≡◌, ℕ, ◌+◌, ◌*◌, ◌<◌, [], ◌++◌, pos, if◌then◌else◌, OnOk, slice_index, slice_index_or, string_bytes};
 ghost use Rattle.bits.specs.Sets.{in?};
 ghost use Rattle.report.specs.Report.{cell_line, fits_text, rule_line, clash_text};
 

@@ -2,30 +2,12 @@
 -- They stand in specs/ since the laws of a type may cite nothing else of its own crate. The check proves them, so no reader has to believe them.
 use Rattle.std.specs.Prelude.{◌≡◌, ℕ, ◌<◌, List, length, slice_index, slice_index_or}
 use Rattle.std.proofs.Common.{sym, ap, ◌∙◌, arith}
-use Rattle.std.proofs.Math.Logic.{∥∥₁_elim}
-use mathlib.Core.HLevel.{⊥_prop}
-use Rattle.std.proofs.Math.Bridge.{le_prop}
 use Rattle.std.proofs.lemmas.List.{get_or_past}
 use Rattle.std.proofs.lemmas.List.FromFn.{length-map-range_with_len, get_or-map-range_with_len}
 use Rattle.network.specs.Cells.{GoodCells}
 use Rattle.network.specs.Book.{Lawful, Sound}
 use Rattle.rows.specs.declared.rule.RowsRule.{RowsRule}
 use Rattle.rows.specs.Rows.{WellFormed, rule_of, rows_book, no_rows}
-
--- stores that are somehow known to be well formed are so
-pub well_formed : {rules : List RowsRule} {bytes : List ℕ} → ∥ WellFormed rules bytes ∥₁ → WellFormed rules bytes
-well_formed ok = record {
-  few = ∥∥₁_elim ok le_prop (λ w. w.few);
-  each = λ r h. record {
-    good = record {
-      some = ∥∥₁_elim ok le_prop (λ w. (w.each r h).good.some);
-      few = ∥∥₁_elim ok le_prop (λ w. (w.each r h).good.few);
-      small = λ k l. ∥∥₁_elim ok le_prop (λ w. (w.each r h).good.small k l);
-      apart = λ j k l m e. ∥∥₁_elim ok ⊥_prop (λ w. (w.each r h).good.apart j k l m e);
-    };
-    inside = ∥∥₁_elim ok le_prop (λ w. (w.each r h).inside);
-  };
-}
 
 module _ (bytes : List ℕ) (rule : RowsRule) where
   -- a stored rule has as many cells as its width says
@@ -51,9 +33,9 @@ module _ (bytes : List ℕ) (rule : RowsRule) where
   }
 
 -- the book of well-formed stores is lawful
-pub rows_lawful : (rules : List RowsRule) (bytes : List ℕ) → ∥ WellFormed rules bytes ∥₁ → Lawful (rows_book rules bytes)
+pub rows_lawful : (rules : List RowsRule) (bytes : List ℕ) → WellFormed rules bytes → Lawful (rows_book rules bytes)
 rows_lawful rules bytes ok = record {
-  bounded = (well_formed ok).few;
-  sound = λ r h. sound bytes (slice_index_or rules r no_rows) ((well_formed ok).each r h).good;
+  bounded = ok.few;
+  sound = λ r h. sound bytes (slice_index_or rules r no_rows) (ok.each r h).good;
   missing = λ r h. ap (λ rule. (rule_of bytes rule).cells) (get_or_past rules r no_rows h);
 }

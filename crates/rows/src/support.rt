@@ -31,7 +31,7 @@ impl<'a> RowsBook<'a> {
 impl<'a> RuleBook for RowsBook<'a> {
     ghost meaning = { λ b. rows_book b.rules.now b.bytes.now };
 
-    ghost laws = { λ b. rows_lawful b.rules.now b.bytes.now ∣ b.ok ∣₁ };
+    ghost laws = { λ b. rows_lawful b.rules.now b.bytes.now b.ok };
 
     fn count(&self) -> u16 {
         self.rules.len() as u16
