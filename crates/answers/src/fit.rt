@@ -19,7 +19,7 @@ use text::push_fault;
 
 /// A step that is still to make a call, with buffers that are long enough for a Fit.
 pub fn step(heap: Global, call: Call) -> Result<Step, AllocError>
-    ensures { IfOk result (λ s. (s.call ≡ call) × (sizes s.buffers ≡ fit_sizes)) }
+    ensures { IfOk result (λ s. (s.call ≡ call) × (sizes s.buffers ≡ fit_sizes) × (s.answer ≡ Answer.Done)) }
 {
     let line = Line {
         listed: 0,

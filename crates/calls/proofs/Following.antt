@@ -4,6 +4,7 @@ use Rattle.std.specs.List.{AllZip}
 use Rattle.std.proofs.lemmas.List.{length-take-le, ext_get_or}
 use Rattle.std.proofs.lemmas.Option.{none-some}
 use Rattle.choosers.specs.Choice.{Machine}
+use Rattle.runs.specs.declared.line.Line.{Line}
 use Rattle.cores.specs.Core.{Outcome, Outcome.left, Outcome.core}
 use Rattle.cores.proofs.Unique.{fit_same}
 use Rattle.clash.specs.declared.fitted.Fitted.{Fitted as Values}
@@ -20,7 +21,7 @@ use Rattle.calls.specs.History.{Did, standing}
 use Rattle.calls.specs.Plays.{sizes, did, Makes, Makes.refused, Makes.changed, Makes.fitted, Plays.none, Plays.more}
 use Rattle.calls.specs.Promise.{lines_of, filling_of}
 use Rattle.runs.specs.Law.{Alone}
-use Rattle.calls.specs.Runs.{Ran, start_after, Comes, StepRuns, PlaysByRuns, Alike, Agree, Follows}
+use Rattle.calls.specs.Runs.{Ran, start_after, Comes, FitRuns, StepRuns, PlaysByRuns, Alike, Agree, OnlyFit, Follows}
 use Rattle.calls.proofs.RunLaws.{ran_fixed}
 use Rattle.calls.proofs.Fillings.{starts_long}
 
@@ -128,19 +129,25 @@ pub did_same : {c c' : Call} {a a' : Answer} → c ≡ c' → a ≡ a' → ◌�
 did_same e f = cc
 
 module _ {C : Type 0} (k : Machine C) (s : Sheet) where
+  -- the same runs give the same answer, lines and filling, and leave the same
+  pub only_fit : {start : List ℕ} {on : ℕ} {x y : Lasting C} {log : List Line} {filling : List ℕ} {f : Values} → FitRuns k s.book start on x log filling f y → OnlyFit k s.book start on x log filling f y
+  only_fit {start} {log = log} {filling = filling} {f = f} p log' filling' g z q =
+      let e = fit_same (Ran k s.book start) (ran_fixed k s.book start) p.runs q.runs in
+      let n = length-take-le f.lines log p.counted in
+      let m = length-take-le g.lines log' q.counted in
+      let lines : f.lines ≡ g.lines = sym n ∙ ap length e.0 ∙ m in
+      let c = comes_same q.out f g (take (length start) filling) (take (length start) filling') (subst (λ (o : Outcome (List ℕ)). Comes o f (take (length start) filling)) e.1 p.comes) q.comes in
+      (values_same f g lines c.0, e.0, c.1, e.2)
+
   fit_agree : (h : List Did) (a a' : Step) (f g : Values) {x y y' : Lasting C} → StepRuns k s h x a f y → StepRuns k s h x a' g y'
       → (f ≡ g) × (lines_of a f ≡ lines_of a' g) × (f.core ≡ None → filling_of s a ≡ filling_of s a') × (y ≡ y')
-  fit_agree h a a' f g p q =
-      let e = fit_same (Ran k s.book (start_after s h)) (ran_fixed k s.book (start_after s h)) p.runs q.runs in
-      let n = length-take-le f.lines (vec_items a.buffers.log) p.counted in
-      let m = length-take-le g.lines (vec_items a'.buffers.log) q.counted in
-      let lines : f.lines ≡ g.lines = sym n ∙ ap length e.0 ∙ m in
+  fit_agree h a a' f g {y' = y'} p q =
       let wide = starts_long s.lengths (standing h) in
-      let c = comes_same q.out f g (take (length (start_after s h)) (vec_items a.buffers.filling)) (take (length (start_after s h)) (vec_items a'.buffers.filling)) (subst (λ (o : Outcome (List ℕ)). Comes o f (take (length (start_after s h)) (vec_items a.buffers.filling))) e.1 p.comes) q.comes in (
-        values_same f g lines c.0,
-        e.0,
-        λ z. sym (ap (λ (i : ℕ). take i (vec_items a.buffers.filling)) wide) ∙ c.1 z ∙ ap (λ (i : ℕ). take i (vec_items a'.buffers.filling)) wide,
-        e.2,
+      let o = only_fit p (vec_items a'.buffers.log) (vec_items a'.buffers.filling) g y' q in (
+        o.0,
+        o.1,
+        λ z. sym (ap (λ (i : ℕ). take i (vec_items a.buffers.filling)) wide) ∙ o.2 z ∙ ap (λ (i : ℕ). take i (vec_items a'.buffers.filling)) wide,
+        o.3,
       )
 
   -- the same sizes and the same call

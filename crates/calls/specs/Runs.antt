@@ -56,6 +56,11 @@ pub record FitLaw (m : BookMeaning) (start : List ℕ) (on : ℕ) (log : List Li
   pub clashed : (c : ℕ) → f.core ≡ Some c → (Meetable m start on → ⊥) × Core (Meetable m start) on c × Short (size on) (size c) f.lines
   pub right : AllByRecursion (Right (Meetable m start)) (take f.lines log)
 
+-- nothing else comes of these runs: not another answer, nor other lines or another filling, whatever else the log and the bytes hold, nor another chooser or other weights
+abbrev pub OnlyFit : {C : Type 0} → Machine C → BookMeaning → List ℕ → ℕ → Lasting C → List Line → List ℕ → Values → Lasting C → Type 0
+OnlyFit {C} k m start on x log filling f y = (log' : List Line) (filling' : List ℕ) (g : Values) (z : Lasting C) → FitRuns k m start on x log' filling' g z
+    → (f ≡ g) × (take f.lines log ≡ take g.lines log') × (f.core ≡ None → take (length start) filling ≡ take (length start) filling') × (y ≡ z)
+
 -- a Fit's runs, for the buffers of a step, after the calls h
 abbrev pub StepRuns : {C : Type 0} → Machine C → Sheet → List Did → Lasting C → Step → Values → Lasting C → Type 0
 StepRuns k s h x a f y = FitRuns k s.book (start_after s h) (on_after s h) x (vec_items a.buffers.log) (vec_items a.buffers.filling) f y

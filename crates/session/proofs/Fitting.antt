@@ -18,6 +18,7 @@ use Rattle.calls.specs.Sheet.{cells, Opens}
 use Rattle.calls.specs.History.{Valid}
 use Rattle.calls.specs.Runs.{Ran, Comes, FitRuns, FitLaw}
 use Rattle.calls.proofs.Fillings.{ready, few_rules, starts_long, where_small, where_low}
+use Rattle.calls.proofs.Following.{only_fit}
 use Rattle.calls.proofs.Promising.{first_run, runs_law}
 use Rattle.session.specs.Pins.{held, LowestByte}
 use Rattle.session.specs.declared.session.Session.{Session}
@@ -97,6 +98,7 @@ module _ {B C : Type 0} (meaning : B → BookMeaning) (k : Machine C) (naming : 
     solved_filled filling bytes v room low later = record {
       kept = refl;
       runs = done bytes (comes_filled bytes room low p.out runs_are p.answers);
+      only = only_fit k (sheet_of meaning s) (done bytes (comes_filled bytes room low p.out runs_are p.answers));
       law = law_of bytes (comes_filled bytes room low p.out runs_are p.answers);
       keeps = record { rest = p.keeps; later = λ _. subst (λ (n : ℕ). drop n bytes ≡ drop n filling) same later; bytes = λ some. absurd (some v) };
     }
@@ -109,6 +111,7 @@ module _ {B C : Type 0} (meaning : B → BookMeaning) (k : Machine C) (naming : 
     solved_clashed filling ne = record {
       kept = refl;
       runs = done filling (comes_clashed ne (take (length the_start) filling) p.out p.answers);
+      only = only_fit k (sheet_of meaning s) (done filling (comes_clashed ne (take (length the_start) filling) p.out p.answers));
       law = law_of filling (comes_clashed ne (take (length the_start) filling) p.out p.answers);
       keeps = record { rest = p.keeps; later = λ z. absurd (ne z); bytes = λ _. refl };
     }

@@ -12,7 +12,7 @@ use Rattle.calls.specs.Answers.{said, returned}
 use Rattle.calls.specs.Sheet.{Sheet, sheet, cells, Sizes, Judged}
 use Rattle.calls.specs.History.{set_where}
 use Rattle.calls.specs.Promise.{Keeps}
-use Rattle.calls.specs.Runs.{starts, FitRuns, FitLaw}
+use Rattle.calls.specs.Runs.{starts, FitRuns, FitLaw, OnlyFit}
 use Rattle.session.specs.Pins.{held}
 use Rattle.session.specs.declared.table.Table.{Table}
 use Rattle.session.specs.declared.session.Session.{Session}
@@ -67,6 +67,7 @@ table_on m t = set_where (λ r. slice_index_or t.switches r false) m.count
 pub record Solved {B C : Type 0} (meaning : B → BookMeaning) (k : Machine C) (s : Session B C) (log : List Line) (filling : List ℕ) (f : Values) (t : Session B C) (log' : List Line) (filling' : List ℕ) : Type 0 where
   pub kept : t ≡ with_lasting s (lasting_of t)
   pub runs : FitRuns k (meaning s.book) (table_start s.lengths.now s.table) (table_on (meaning s.book) s.table) (lasting_of s) log' filling' f (lasting_of t)
+  pub only : OnlyFit k (meaning s.book) (table_start s.lengths.now s.table) (table_on (meaning s.book) s.table) (lasting_of s) log' filling' f (lasting_of t)
   pub law : FitLaw (meaning s.book) (table_start s.lengths.now s.table) (table_on (meaning s.book) s.table) log' filling' f
   pub keeps : Keeps (cells (sheet_of meaning s)) f log log' filling filling'
 
