@@ -5,7 +5,7 @@ use Rattle.std.proofs.lemmas.List.{reverse-reverse}
 use Rattle.std.proofs.lemmas.Bool.{cond_both, cond-true, cond-false, lt-ltb, le-ltb, cases_lt}
 use Rattle.network.specs.Book.{Rule, BookMeaning, joined, turned, reversed, no_rule}
 use Rattle.network.specs.Fillings.{row_of, Meets}
-use Rattle.network.specs.Made.{MeetsBook, MeetsFirst}
+use Rattle.network.specs.Made.{MeetsBook, MeetsFirst, SameMet, SameMeetable}
 
 map_onto : (g : ℕ → ℕ) (xs ys : List ℕ) → map g (reverse_aux xs ys) ≡ reverse_aux (map g xs) (map g ys)
 map_onto g [] ys = refl
@@ -19,6 +19,13 @@ pub turned_meets : (flag : ℕ → Bool) (m : BookMeaning) (k : ℕ) (f : List �
 turned_meets flag m k f = cond_both (flag k) (reversed (m.rule k)) (m.rule k) (λ rule. Meets rule f ↔ Meets (m.rule k) f)
     (λ _. ((λ h. sym (ap (m.rule k).permits (row_reversed (m.rule k) f)) ∙ h), (λ h. ap (m.rule k).permits (row_reversed (m.rule k) f) ∙ h)))
     (λ _. ((λ h. h), (λ h. h)))
+
+-- books whose rules are met by the same fillings
+pub meetable_same : (m b : BookMeaning) → SameMet m b → SameMeetable m b
+meetable_same m b same sets rules = (
+  (λ p. record { filling = p.filling; inside = p.inside; meets = λ r h. (same r p.filling).0 (p.meets r h) }),
+  (λ p. record { filling = p.filling; inside = p.inside; meets = λ r h. (same r p.filling).1 (p.meets r h) }),
+)
 
 module _ (m n : BookMeaning) (bounded : m.count ≤ 65535) where
   -- the joined book's rules

@@ -2,7 +2,7 @@
 ghost use Rattle.std.specs.Prelude.{◌≡◌};
 ghost use Rattle.network.specs.Book.{BookMeaning, Lawful, flag_at, turned};
 ghost use Rattle.network.specs.BookLaws.{turned_lawful};
-ghost use Rattle.network.specs.Made.{SameMet, SamePosition};
+ghost use Rattle.network.specs.Made.{SameMeetable, SameMet, SamePosition};
 
 use crate::book::RuleBook;
 
@@ -14,10 +14,12 @@ pub struct Turned<B> {
 }
 
 impl<B: RuleBook> Turned<B> {
-    /// Whatever the flags, a filling meets a rule of the book made exactly if it meets the rule below.
+    /// Whatever the flags, a filling meets a rule of the book made exactly if it meets the rule below (`same`).
+    /// So rules can be met together exactly if they can be below (`together`).
     pub fn new(below: B, flags: [bool; 64]) -> Turned<B>
         ensures made { result ≡ record { below = below; flags = flags } }
         ensures same { SameMet (B.RuleBook.meaning below) (turned (flag_at result.flags) (B.RuleBook.meaning result.below)) }
+        ensures together { SameMeetable (B.RuleBook.meaning below) (turned (flag_at result.flags) (B.RuleBook.meaning result.below)) }
     {
         Turned { below, flags }
     }
