@@ -1,4 +1,5 @@
-//! The text that `fit` prints for a sheet file. Uses `storage`, `load`, `sheet_books`, `opening`, `play`, `report` and `text`, and what these are made of.
+//! The text that `fit` prints for a sheet file.
+//! Uses `bits`, `network`, `choosers`, `runs`, `clash`, `calls`, `opening`, `session`, `play`, `formulas`, `sheets`, `storage`, `load`, `sheet_books`, `text` and `report`.
 #![tactic(auto)]
 
 pub mod answer;

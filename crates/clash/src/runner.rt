@@ -1,4 +1,4 @@
-//! What the second phase asks of a run.
+//! What a Fit asks of whatever runs listed rules.
 ghost use Rattle.std.specs.Prelude.{◌≡◌, ℕ, ◌↔◌, List, Decides, IsSome, IfSome, IfNone};
 ghost use Rattle.runs.specs.declared.line.Line.{Line};
 ghost use Rattle.clash.specs.Running.{Lasting, lasting, Laws};

@@ -1,4 +1,5 @@
-//! Reads lines of a number of cells and a formula, and prints for each `read` or the formula's first fault, its number and its offset. Uses `reader` and `formulas`.
+//! Reads lines of a number of cells and a formula, and prints for each `read` or the formula's first fault, its number and its offset.
+//! Uses `formulas`, `reader` and `anyhow`.
 #![tactic(auto)]
 
 use anyhow::anyhow;

@@ -1,5 +1,5 @@
 //! A host, as an example: reads a sheet file into stores, makes a session over the sheet, pins C0 to place 2, and asks for a Fit.
-//! Uses `load`, `storage`, `sheets`, `sheet_books`, `session`, `clash`, `choosers`, `runs` and `bits`.
+//! Uses `bits`, `choosers`, `clash`, `runs`, `session`, `sheets`, `load`, `storage` and `sheet_books`.
 #![tactic(auto)]
 
 use bits::has;

@@ -1,4 +1,4 @@
-//! The truth of stored formulas at the cells' numbers. Uses `formulas` only.
+//! The truth of stored formulas at the cells' numbers. Uses `formulas`.
 #![tactic(auto)]
 
 ghost use Rattle.std.specs.Prelude.{◌≡◌, ℕ, ◌<◌, ℤ, pos, slice_index_or};

@@ -1,4 +1,5 @@
-//! Reads lines of a name and a sheet file as hex digits, and prints for each the name and what is known of the text of one run: all of it where the run found a filling, else the lines before the weights. Uses `first_run` and `hex`.
+//! Reads lines of a name and a sheet file as hex digits, and prints for each the name and what is known of the text of one run: all of it where the run found a filling, else the lines before the weights.
+//! Uses `first_run`, `hex` and `anyhow`.
 #![tactic(auto)]
 
 use anyhow::Context;

@@ -1,4 +1,4 @@
-//! Replays many sessions with known answers, and prints the name of each and its answers. Uses `replaying` and `hex`.
+//! Replays many sessions with known answers, and prints the name of each and its answers. Uses `replaying`, `hex` and `anyhow`.
 //!
 //! A session begins with a line `session NAME SHEET`, the sheet file as hex digits, and the lines up to the next one are its script.
 #![tactic(auto)]

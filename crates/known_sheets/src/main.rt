@@ -1,4 +1,5 @@
-//! Reads lines of a name and a sheet file as hex digits, and prints for each the name, the text of a Fit on the sheet, and where one is made its log and the weights after it. Uses `answers`, `play`, `run_lines`, what these are made of, and `hex`.
+//! Reads lines of a name and a sheet file as hex digits, and prints for each the name, the text of a Fit on the sheet, and where one is made its log and the weights after it.
+//! Uses `network`, `choosers`, `calls`, `play`, `sheets`, `storage`, `load`, `sheet_books`, `text`, `answers`, `run_lines`, `hex` and `anyhow`.
 #![tactic(auto)]
 
 use answers::answer::answer;

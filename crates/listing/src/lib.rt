@@ -1,4 +1,4 @@
-//! The readable text of a sheet that was read, for a person. Uses `text`, `rows`, `sheets` and `sheet_books`.
+//! The readable text of a sheet that was read, for a person. Uses `bits`, `formulas`, `text`, `rows`, `sheets` and `sheet_books`.
 #![tactic(auto)]
 
 ghost use Rattle.std.specs.Prelude.{◌≡◌, ◌++◌, OnOk};

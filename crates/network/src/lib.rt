@@ -1,4 +1,4 @@
-//! Rule books, known by their meaning: what the search asks of a book, and books made of other books. Uses `bits` only.
+//! Rule books, known by their meaning: what the search asks of a book, and books made of other books. Uses `bits`.
 #![tactic(auto)]
 
 pub mod book;

@@ -1,4 +1,5 @@
-//! Reads a sheet file from standard input, makes one run of all its rules, and prints the run's line, what it found, and the weights; or the first fault. Uses `first_run`.
+//! Reads a sheet file from standard input, makes one run of all its rules, and prints the run's line, what it found, and the weights; or the first fault.
+//! Uses `first_run`.
 #![tactic(auto)]
 
 use first_run::first_run::first_run;

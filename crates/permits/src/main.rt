@@ -1,4 +1,4 @@
-//! Reads cells' lists and a formula from standard input, and prints the rows that the formula permits. Uses `preview` and `text`.
+//! Reads cells' lists and a formula from standard input, and prints the rows that the formula permits. Uses `formulas`, `preview` and `text`.
 #![tactic(auto)]
 
 ghost use Rattle.std.specs.Prelude.{◌≡◌, [], ◌∷◌, ◌++◌, IfOk, codes, string_bytes};

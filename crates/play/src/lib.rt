@@ -1,4 +1,5 @@
-//! Any sequence of calls on a session just made, with all that is promised of it. Uses `network`, `choosers`, `calls` and `session`.
+//! Any sequence of calls on a session just made, with all that is promised of it.
+//! Uses `bits`, `network`, `choosers`, `runs`, `clash`, `calls` and `session`.
 #![tactic(auto)]
 
 ghost use Rattle.std.specs.Prelude.{◌≡◌, List, [], ◌∷◌};

@@ -1,4 +1,4 @@
-//! Reads a formula's text into a lent store of nodes. Uses `formulas` only.
+//! Reads a formula's text into a lent store of nodes. Uses `formulas`.
 #![tactic(auto)]
 
 mod bytes;

@@ -1,4 +1,4 @@
-//! Makes the calls of a script on sessions over a sheet file, and prints their answers: `replay SHEET < SCRIPT`. Uses `replaying`.
+//! Makes the calls of a script on sessions over a sheet file, and prints their answers: `replay SHEET < SCRIPT`. Uses `replaying` and `anyhow`.
 #![tactic(auto)]
 
 use anyhow::Context;

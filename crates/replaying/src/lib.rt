@@ -1,4 +1,5 @@
-//! The text that `replay` prints for a sheet file and a script of calls. Uses `script`, `storage`, `load`, `sheet_books`, `opening`, `play`, `run_lines`, `answers`, `shown` and `text`, and what these are made of.
+//! The text that `replay` prints for a sheet file and a script of calls.
+//! Uses `bits`, `network`, `choosers`, `runs`, `clash`, `calls`, `opening`, `session`, `play`, `formulas`, `sheets`, `load`, `sheet_books`, `storage`, `text`, `shown`, `run_lines`, `answers` and `script`.
 #![tactic(auto)]
 
 mod answer;

@@ -1,4 +1,4 @@
-//! The lines that tell of a run: its log line, and lines of numbers. Uses `runs` and `text`.
+//! The lines that tell of a run: its log line, and lines of numbers. Uses `formulas`, `text` and `runs`.
 #![tactic(auto)]
 
 ghost use Rattle.std.specs.Prelude.{◌≡◌, ◌∷◌, ◌++◌, OnOk, string_bytes};

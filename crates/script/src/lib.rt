@@ -1,4 +1,4 @@
-//! What a script of calls is: its lines, and how each is read. Uses `calls`.
+//! What a script of calls is: its lines, and how each is read. Uses `bits` and `calls`.
 #![tactic(auto)]
 
 pub mod line;

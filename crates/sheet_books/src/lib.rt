@@ -1,4 +1,4 @@
-//! The rule books of a sheet that was read into the stores. Uses `network`, `rows`, `formula_book` and `sheets`.
+//! The rule books of a sheet that was read into the stores. Uses `bits`, `network`, `formulas`, `judge`, `rows`, `formula_book`, `reader` and `sheets`.
 #![tactic(auto)]
 
 ghost use Rattle.std.specs.Prelude.{◌≡◌, map, length, take};

@@ -1,4 +1,5 @@
-//! Prints the text of a small sheet, and what its books say of each place, as they stand and turned. The sheet is put into the stores by hand. Uses `sheet_books`, `listing`, `network` for the turned book, and what a sheet's stores are made of.
+//! Prints the text of a small sheet, and what its books say of each place, as they stand and turned. The sheet is put into the stores by hand.
+//! Uses `network`, `formulas`, `rows`, `reader`, `sheets`, `sheet_books`, `listing` and `anyhow`.
 #![tactic(auto)]
 
 use formulas::node::{Node, Relation, Shift, Side};

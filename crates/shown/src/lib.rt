@@ -1,4 +1,4 @@
-//! The text that `show` prints for a sheet file. Uses `storage`, `load`, `listing`, `sheets` and `text`.
+//! The text that `show` prints for a sheet file. Uses `formulas`, `text`, `sheets`, `load`, `storage` and `listing`.
 #![tactic(auto)]
 
 ghost use Rattle.std.specs.Prelude.{◌≡◌, IfOk, string_bytes};

@@ -1,4 +1,5 @@
-//! The stores that a sheet is read into, owned: a program makes them once and lends them. And what reading a file into them comes to. Uses `sheets`, `load`, `sheet_books` and what stores hold of `formulas`, `reader` and `rows`.
+//! The stores that a sheet is read into, owned: a program makes them once and lends them. And what reading a file into them comes to.
+//! Uses `formulas`, `reader`, `rows`, `sheets`, `load` and `sheet_books`.
 #![tactic(auto)]
 
 ghost use Rattle.std.specs.Prelude.{◌≡◌, IfOk};

@@ -1,4 +1,4 @@
-//! What several texts are made of: the line of a fault, what stands between two items, and parts of slices. Uses `formulas` for what a number's text is.
+//! What several texts are made of: the line of a fault, what stands between two items, and parts of slices. Uses `formulas`.
 #![tactic(auto)]
 
 ghost use Rattle.std.specs.Prelude.{◌≡◌, [], ◌++◌, take, drop, if◌then◌else◌, OnOk, nat_eq, string_bytes};

@@ -1,5 +1,5 @@
-//! Makes many small sheets, always the same, plays calls on them, and holds every answer to a solver that tries all fillings. Uses `load`,
-//! `sheet_books` and `play`, and what these are made of; of a run's own code it uses nothing.
+//! Makes many small sheets, always the same, plays calls on them, and holds every answer to a solver that tries all fillings.
+//! Uses `network`, `choosers`, `runs`, `clash`, `calls`, `play`, `storage`, `load`, `sheet_books` and `anyhow`; of a run's own code it uses nothing.
 #![tactic(auto)]
 
 use crate::model::{Counts, Model};
