@@ -80,9 +80,7 @@ fn push_sessions(
     let mut rest = lines;
     while let Some(count) = next_turn(rest) {
         push_turned(heap, out, stores, extent, flags, first, &rest[..count])?;
-        // By a variable, since a call's array is not laid straight into one that is there.
-        let turn = flags_of(&rest[count]);
-        flags = turn;
+        flags = flags_of(&rest[count]);
         first += count + 1;
         rest = &rest[count + 1..];
     }

@@ -16,7 +16,7 @@ loop-count-preserved c =
       left = omega (arith, count, found.0, c.loop-count.invariant.left);
       text = λ s h u rest.
           let p = c.in_ok-push_turned.ensures s h in
-          let q = c.loop-count.invariant.text s h (p.0 ++ u) (sessions_step s lines _ _ k c.loop-count.first _ c.loop-count.flags c.flags_of-turn.result p.0 u (search rules) more found c.flags_of-turn.ensures p.2 rest) in
+          let q = c.loop-count.invariant.text s h (p.0 ++ u) (sessions_step s lines _ _ k c.loop-count.first _ c.loop-count.flags c.flags_of-flags.result p.0 u (search rules) more found c.flags_of-flags.ensures p.2 rest) in
           (q.0, ap (λ l. l ++ u) p.1 ∙ append_assoc (string_bytes c.loop-count.out) p.0 u ∙ q.1, q.2);
     }
 
