@@ -21,7 +21,7 @@ use Rattle.calls.specs.History.{Did, standing}
 use Rattle.calls.specs.Plays.{sizes, did, Makes, Makes.refused, Makes.changed, Makes.fitted, Plays.none, Plays.more}
 use Rattle.calls.specs.Promise.{lines_of, filling_of}
 use Rattle.runs.specs.Law.{Alone}
-use Rattle.calls.specs.Runs.{Ran, start_after, Comes, FitRuns, StepRuns, PlaysByRuns, Alike, Agree, OnlyFit, Follows}
+use Rattle.calls.specs.Runs.{Ran, Comes, FitRuns, StepRuns, PlaysByRuns, Alike, Agree, OnlyFit, Follows}
 use Rattle.calls.proofs.RunLaws.{ran_fixed}
 use Rattle.calls.proofs.Fillings.{starts_long}
 
