@@ -62,7 +62,7 @@ module _ {S O : Type 0} (R : S → Line → O → S → Type 0) where
         → Fit R on s ls out t → Logged R Fits on s before f t sets after
     logged {on} {s} {t} {after = after} {out = out} f h i w a p =
         let runs : Fit R on s (take f.lines after) out t = subst (λ (xs : List Line). Fit R on s xs out t) (sym w.begins) p in
-        record { out = out; runs = runs; promise = fit_law R Fits law h runs; answers = a; inside = i; keeps = w.keeps }
+        record { out = out; runs = runs; law = fit_law R Fits law h runs; answers = a; inside = i; keeps = w.keeps }
 
     pub filled : {on b : ℕ} {s t : S} {o : O} {l : Line} {before after : List Line} → on < 2 ^ 64 → b ≤ length after → Wrote before 0 b (l ∷ []) after → Gives R on Met s l o t
         → Logged R Fits on s before (record { lines = b; core = None }) t o after

@@ -1,7 +1,7 @@
 -- Lines written into a log, and a Fit's answer. Assumes nothing.
 use Rattle.std.specs.Prelude.{◌≡◌, ℕ, ◌+◌, ◌≤◌, List, ◌++◌, length, take, drop, Some, None}
 use Rattle.runs.specs.declared.line.Line.{Line}
-use Rattle.cores.specs.Core.{Outcome, Outcome.left, Outcome.core, Promise}
+use Rattle.cores.specs.Core.{Outcome, Outcome.left, Outcome.core, RightFit}
 use Rattle.cores.specs.Fit.{Fit}
 use Rattle.clash.specs.declared.fitted.Fitted.{Fitted}
 
@@ -16,11 +16,11 @@ abbrev pub Answers : {O : Type 0} → Outcome O → Fitted → O → Type 0
 Answers (left o) f sets = (f.core ≡ None) × (o ≡ sets)
 Answers (core c) f sets = f.core ≡ Some c
 
--- a Fit's log begins with the lines of its runs, in order, and its later lines are kept; the answer is its outcome, which keeps the promise of cores
+-- a Fit's log begins with the lines of its runs, in order, and its later lines are kept; the answer is its outcome, which is a right one
 pub record Logged {S O : Type 0} (R : S → Line → O → S → Type 0) (Fits : ℕ → Type 0) (on : ℕ) (s : S) (before : List Line) (f : Fitted) (t : S) (sets : O) (after : List Line) : Type 0 where
   pub out : Outcome O
   pub runs : Fit R on s (take f.lines after) out t
-  pub promise : Promise Fits on (take f.lines after) out
+  pub law : RightFit Fits on (take f.lines after) out
   pub answers : Answers out f sets
   pub inside : f.lines ≤ length after
   pub keeps : drop f.lines after ≡ drop f.lines before

@@ -15,7 +15,7 @@ use Rattle.runs.specs.declared.line.Line.{Line}
 use Rattle.runs.specs.declared.line.Verdict.{Verdict}
 use Rattle.runs.specs.declared.line.Verdict.TheVariants.{Met, Unmet}
 use Rattle.runs.specs.Law.{Right}
-use Rattle.cores.specs.Core.{Core, Short, Outcome, Promise}
+use Rattle.cores.specs.Core.{Core, Short, Outcome, RightFit}
 use Rattle.cores.specs.Fit.{with_first, with_rule, Lawful, Gives, Shrinks, Shrinks.all, Shrinks.fewer, Halves, Halves.met, Halves.down, Halves.up, Rounds, Rounds.alone, Rounds.round, Fit, Fit.fills, Fit.clashes}
 
 half_down : (lo hi L : ℕ) → lo < hi → hi - lo + 1 ≤ 2 * L → (lo + hi) / 2 - lo + 1 ≤ L
@@ -252,7 +252,7 @@ module _ {S O : Type 0} (R : S → Line → O → S → Type 0) (Fits : ℕ → 
   rounds_each (alone g) = (right g.run, tt)
   rounds_each (round {ls = ls} {ms = ms} g h p) = (right g.run, each_append (Right Fits) ls ms (halves_each h) (rounds_each p))
 
-  pub fit_law : {on : ℕ} {s t : S} {ls : List Line} {out : Outcome O} → on < 2 ^ 64 → Fit R on s ls out t → Promise Fits on ls out
+  pub fit_law : {on : ℕ} {s t : S} {ls : List Line} {out : Outcome O} → on < 2 ^ 64 → Fit R on s ls out t → RightFit Fits on ls out
   fit_law h (fills g) = record { lines = (right g.run, tt); ends = (fits g, refl) }
   fit_law h (clashes {ls = ls} {ms = ms} g p q) = let k = found_law h g p q in record {
     lines = (right g.run, each_append (Right Fits) ls ms (shrinks_each p) (rounds_each q));

@@ -26,6 +26,6 @@ Ends Fits on lines (left o) = Fits on × (lines ≡ 1)
 Ends Fits on lines (core c) = (Fits on → ⊥) × Core Fits on c × Short (size on) (size c) lines
 
 -- every line is right, and the Fit ends as its outcome says
-pub record Promise {O : Type 0} (Fits : ℕ → Type 0) (on : ℕ) (ls : List Line) (out : Outcome O) : Type 0 where
+pub record RightFit {O : Type 0} (Fits : ℕ → Type 0) (on : ℕ) (ls : List Line) (out : Outcome O) : Type 0 where
   pub lines : AllByRecursion (Right Fits) ls
   pub ends : Ends Fits on (length ls) out

@@ -59,7 +59,7 @@ fn is_related(by: Relation, a: i64, b: i64) -> bool
 #[tactic(auto, using(crate::proofs::Trees::stood))]
 pub fn holds(nodes: &[Node], at: u16, numbers: &[i32]) -> bool
     ensures stands { (c : Condition) → Stands nodes.now at c → result ≡ truth numbers.now c }
-    ensures any { (n : ℕ) → at < n → result ≡ truth numbers.now (tree n nodes.now at) }
+    ensures any_node { (n : ℕ) → at < n → result ≡ truth numbers.now (tree n nodes.now at) }
 {
     match node_at(nodes, at) {
         Node::Free => false,

@@ -55,7 +55,7 @@ fn make_all<B: RuleBook, C: Chooser>(session: &mut Session<'_, B, C>, steps: &mu
 
 /// Plays any calls on a session just made over some lists, given by their lengths, a book and a chooser.
 ///
-/// Every call is answered as the calls before it say, every Fit with a filling or a core (`promise`): those of its runs (`runs`), which follow from
+/// Every call is answered as the calls before it say, every Fit with a filling or a core (`fillings_and_cores`): those of its runs (`runs`), which follow from
 /// the lists, the book's meaning, the chooser and the calls (`follows`).
 pub fn play<'a, B: RuleBook, C: Chooser>(
     lengths: &'a [u8],
@@ -63,7 +63,7 @@ pub fn play<'a, B: RuleBook, C: Chooser>(
     chooser: C,
     steps: &mut [Step],
 ) -> Session<'a, B, C>
-    ensures promise { FillingsAndCores (sheet lengths.now (B.RuleBook.meaning book)) steps.old steps.new }
+    ensures fillings_and_cores { FillingsAndCores (sheet lengths.now (B.RuleBook.meaning book)) steps.old steps.new }
     ensures runs { PlaysByRuns C.Chooser.meaning (sheet lengths.now (B.RuleBook.meaning book)) [] (fresh chooser) steps.old steps.new (lasting_of result) }
     ensures follows { Follows C.Chooser.meaning (sheet lengths.now (B.RuleBook.meaning book)) (fresh chooser) steps.old steps.new (lasting_of result) }
     ensures sheet { sheet_of B.RuleBook.meaning result ≡ sheet lengths.now (B.RuleBook.meaning book) }

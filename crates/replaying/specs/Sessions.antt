@@ -56,7 +56,7 @@ pub record SessionText (s : Sheet) (n : ℕ) (ls : List Line) (t : List ℕ) : T
   pub before : List Step
   pub after : List Step
   pub prepared : Prepared ls before
-  pub promise : FillingsAndCores s before after
+  pub fillings_and_cores : FillingsAndCores s before after
   pub left : Lasting (LastConflict Weighted)
   pub runs : PlaysByRuns usual s [] (fresh usual_start) before after left
   pub follows : Follows usual s (fresh usual_start) before after left

@@ -25,7 +25,7 @@ returns g c =
     let p = subst₂ (λ (z : Sheet) (x : Lasting g.row.C.Denot). Plays z (StepDone k z) [] x c.args.steps.now c.make_all.new.steps (lasting_of c.make_all.new.session)) is last c.make_all.ensures.plays in
     let runs = plays_runs k s p in
     record {
-      promise = plays_promise k g.C.Chooser.laws s (g.B.RuleBook.laws c.args.book) p;
+      fillings_and_cores = plays_promise k g.C.Chooser.laws s (g.B.RuleBook.laws c.args.book) p;
       runs = runs;
       follows = plays_follow k s runs;
       sheet = c.make_all.ensures.sheet ∙ is;

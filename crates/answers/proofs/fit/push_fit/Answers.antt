@@ -28,7 +28,7 @@ returns g c =
     let number : ℕ → ℕ → ℤ = λ x v. get_or c.args.numbers.now (64 * x + v) (pos 0) in
     let b = c.requires.step in
     let after = c.play.new.steps in
-    let promise = subst (λ l. FillingsAndCores s l after) c.requires.alone c.play.ensures.promise in
+    let promise = subst (λ l. FillingsAndCores s l after) c.requires.alone c.play.ensures.fillings_and_cores in
     let runs = subst (λ l. PlaysByRuns usual s [] (fresh usual_start) l after (lasting_of c.play.result)) c.requires.alone
     (subst (λ x. PlaysByRuns usual s [] (fresh x) c.args.steps.now after (lasting_of c.play.result)) c.new.ensures c.play.ensures.runs) in
     let text = told usual usual_start s number b after (lasting_of c.play.result) c.requires.call c.in_default.ensures c.requires.enough promise runs (get_or after 0 c.index-steps-0.result) (ap (get_or after 0) c.index-steps-0.is) in

@@ -18,7 +18,7 @@ returns-then-are_listed c =
     let condition = tree (suc f.root) b.nodes.now f.root in
     let first = cells_first f (omega (arith, c.requires.good.few)) in
     let yes : listed lists (cells_of f) row ≡ true = (listed_decides lists (cells_of f) row).1 (subst (λ cs. Listed lists cs row) first (c.are_listed.ensures.0 c.if-are_listed.true)) in
-    c.holds.ensures.any (suc f.root) (omega arith)
+    c.holds.ensures.any_node (suc f.root) (omega arith)
     ∙ ap (λ ns. truth ns condition) (c.assigned.ensures ∙ ap (λ cs. assigned lists unset cs row) first)
     ∙ sym (ap (λ b. b && truth (assigned lists unset (cells_of f) row) condition) yes)
 
