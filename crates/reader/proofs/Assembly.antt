@@ -37,7 +37,7 @@ one_more before mid last n u new x e f h g =
 
 module _ {a : Nested} {old : Store} where
   pub read_comparison : {b c d : Cursor} {new : Store} (x : Side) (o : Relation) (y : Side) → Reads a.at (side_text x) b → Reads b (relation_text o) c → Reads c (side_text y) d
-      → KnownSide a.at.text.cells x → KnownSide c.text.cells y → EndsSide y (ahead d) → old.used < length old.nodes.now → new.nodes.now ≡ set old.nodes.now old.used (Compare x o y) → new.used ≡ old.used + 1
+      → KnownSide a.at.text.now.cells x → KnownSide c.text.now.cells y → EndsSide y (ahead d) → old.used < length old.nodes.now → new.nodes.now ≡ set old.nodes.now old.used (Compare x o y) → new.used ≡ old.used + 1
       → ReadOne a old new d
   read_comparison x o y p q r k l e h stores count = record {
     is = compares x o y;
@@ -123,7 +123,7 @@ opener : {w : List ℕ} → Opener w → (v : List ℕ) × (w ≡ v ++ (40 ∷ [
 opener o = ⊎_elim (λ e. (78 ∷ 79 ∷ 84 ∷ [], e, word_not, refl)) (λ q. ⊎_elim (λ e. (65 ∷ 78 ∷ 68 ∷ [], e, word_and, refl)) (λ e. (79 ∷ 82 ∷ [], e, word_or, refl)) q) o
 
 -- where a condition can begin: behind an opening word, and behind a condition and a comma
-pub ready_open : (a : Nested) {b : Cursor} {w : List ℕ} → a.at.text.cells ≤ 1000000 → Opener w → Reads a.at w b → a.level < 16 → Ready b (a.level + 1)
+pub ready_open : (a : Nested) {b : Cursor} {w : List ℕ} → a.at.text.now.cells ≤ 1000000 → Opener w → Reads a.at w b → a.level < 16 → Ready b (a.level + 1)
 ready_open a {b} many o p low = let v = opener o in behind_bracket v.0 v.2 v.3 (subst (λ w. Reads a.at w b) v.1 p)
   where
     opens : (w : List ℕ) → count 40 w ≡ count 41 w → count 40 (w ++ (40 ∷ [])) ≡ count 41 (w ++ (40 ∷ [])) + 1
@@ -137,7 +137,7 @@ ready_open a {b} many o p low = let v = opener o in behind_bracket v.0 v.2 v.3 (
       shallow = omega arith;
     }
 
-pub ready_comma : {a : Nested} {b c : Cursor} {old new : Store} → a.at.text.cells ≤ 1000000 → ReadOne a old new b → Reads b (44 ∷ []) c → Ready c a.level
+pub ready_comma : {a : Nested} {b c : Cursor} {old new : Store} → a.at.text.now.cells ≤ 1000000 → ReadOne a old new b → Reads b (44 ∷ []) c → Ready c a.level
 ready_comma {a} {b} {c} many x q = record {
   clear = moved (λ t k. Clear t.cells t.bytes.now k) q
       (clear_close (on (λ t. t.cells ≤ 1000000) x.reads many) 44 (inr refl) (clear_on x.reads (clear_condition many x.is a.ready.clear a.ready.deep x.reads.spans x.known x.shallow (subst (Ends x.is) (ahead_in x.reads) x.ends))) (reads_ahead q));
@@ -152,41 +152,41 @@ plain_take (suc i) [] a = tt
 plain_take (suc i) (b ∷ w) a = (a.0, plain_take i w a.1)
 
 -- a word that does not open a bracket is the first fault
-pub not_opened : {o : List Bool} (a : Nested) (e : FormulaFault) (w z : List ℕ) (y : Condition) → a.at.text.cells ≤ 1000000 → Awaits o (behind a.at) → Plain w → count 40 w ≡ count 41 w → text y ≡ (w ++ (40 ∷ [])) ++ z
+pub not_opened : {o : List Bool} (a : Nested) (e : FormulaFault) (w z : List ℕ) (y : Condition) → a.at.text.now.cells ≤ 1000000 → Awaits o (behind a.at) → Plain w → count 40 w ≡ count 41 w → text y ≡ (w ++ (40 ∷ [])) ++ z
     → ((c : Condition) (t : List ℕ) → next (text c ++ t) ≡ ahead a.at → (x : List ℕ) × (text c ++ t ≡ (w ++ (40 ∷ [])) ++ x))
-    → NotOpened a.at.text.bytes.now a.at.at (w ++ (40 ∷ [])) a.level e → FirstIn a.at e
+    → NotOpened a.at.text.now.bytes.now a.at.at (w ++ (40 ∷ [])) a.level e → FirstIn a.at e
 unfolding too_deep
 not_opened {o} a e w z y many awaits plain flat spells kind r = ⊎_elim misspelled deep r
   where
     s : List ℕ
-    s = a.at.text.bytes.now
+    s = a.at.text.now.bytes.now
 
     misspelled : Misspelled s a.at.at (w ++ (40 ∷ [])) e → FirstIn a.at e
     misspelled m =
         let short : m.seen ≤ length w = omega (arith, m.more, length-append w (40 ∷ [])) in
         let cut : take m.seen (w ++ (40 ∷ [])) ≡ take m.seen w = take-append-le m.seen w (40 ∷ []) short in
-        subst (λ f. First a.at.text.cells s f e.offset) (sym m.flaw)
+        subst (λ f. First a.at.text.now.cells s f e.offset) (sym m.flaw)
         (first_grammar (word_outside (w ++ (40 ∷ [])) z y awaits spells kind m.more m.spells m.wrong)
         (clear_bytes many (take m.seen w) (plain_take m.seen w plain) a.ready.clear (subst (λ v. Spans s a.at.at v e.offset) cut m.spells)))
 
     deep : (e.flaw ≡ Level) × Spans s a.at.at (w ++ (40 ∷ [])) e.offset × (a.level ≡ 16) → FirstIn a.at e
     deep m =
-        subst (λ f. First a.at.text.cells s f e.offset) (sym m.0)
+        subst (λ f. First a.at.text.now.cells s f e.offset) (sym m.0)
         (first_level (too_deep w z y awaits spells flat m.1 (subst (Deep s a.at.at) m.2 a.ready.deep)) (clear_bytes many w plain a.ready.clear (spans_split w (40 ∷ []) m.1).0))
 
 -- neither a comma nor a bracket after a condition
-pub not_followed : {b : Bool} {o : List Bool} {a : Nested} {c : Cursor} {old new : Store} {e : FormulaFault} → a.at.text.cells ≤ 1000000 → Awaits (b ∷ o) (behind a.at)
+pub not_followed : {b : Bool} {o : List Bool} {a : Nested} {c : Cursor} {old new : Store} {e : FormulaFault} → a.at.text.now.cells ≤ 1000000 → Awaits (b ∷ o) (behind a.at)
     → (r : ReadOne a old new c) → ahead c ≢ 41 → (b ≡ true → ahead c ≢ 44) → e ≡ outside c.at → FirstIn a.at e
 not_followed {b} {o} {a} {c} many awaits r f g is =
     told is (first_grammar (after_condition r.is awaits r.reads.spans ends wrong) (clear_condition many r.is a.ready.clear a.ready.deep r.reads.spans r.known r.shallow ends))
   where
-    seen : ahead c ≡ next (drop c.at a.at.text.bytes.now)
+    seen : ahead c ≡ next (drop c.at a.at.text.now.bytes.now)
     seen = ahead_in r.reads
 
-    ends : Ends r.is (next (drop c.at a.at.text.bytes.now))
+    ends : Ends r.is (next (drop c.at a.at.text.now.bytes.now))
     ends = subst (Ends r.is) seen r.ends
 
-    wrong : (t : List ℕ) → Follows (b ∷ o) t → next t ≢ next (drop c.at a.at.text.bytes.now)
+    wrong : (t : List ℕ) → Follows (b ∷ o) t → next t ≢ next (drop c.at a.at.text.now.bytes.now)
     wrong t h e = go b t h g (e ∙ sym seen)
       where
         go : (x : Bool) (t : List ℕ) → Follows (x ∷ o) t → (x ≡ true → ahead c ≢ 44) → next t ≡ ahead c → ⊥

@@ -36,19 +36,19 @@ part_stored l new n m h e =
 
 -- the start of a text
 pub await_first : (a : Cursor) → a.at ≡ 0 → Awaits [] (behind a)
-await_first a first = subst (λ k. Awaits [] (take k a.text.bytes.now)) (sym first) await_start
+await_first a first = subst (λ k. Awaits [] (take k a.text.now.bytes.now)) (sym first) await_start
 
-module _ {start : Nested} {end : Cursor} {old new : Store} (many : start.at.text.cells ≤ 1000000) (first : start.at.at ≡ 0) (r : ReadOne start old new end) where
+module _ {start : Nested} {end : Cursor} {old new : Store} (many : start.at.text.now.cells ≤ 1000000) (first : start.at.at ≡ 0) (r : ReadOne start old new end) where
   abbrev a : Cursor
   a = start.at
 
   abbrev s : List ℕ
-  s = a.text.bytes.now
+  s = a.text.now.bytes.now
 
   stop : Ends r.is (next (drop end.at s))
   stop = subst (Ends r.is) (ahead_in r.reads) r.ends
 
-  clear : Clear a.text.cells s end.at
+  clear : Clear a.text.now.cells s end.at
   clear = clear_condition many r.is start.ready.clear start.ready.deep r.reads.spans r.known r.shallow stop
 
   -- something stands behind it
@@ -58,7 +58,7 @@ module _ {start : Nested} {end : Cursor} {old new : Store} (many : start.at.text
       wrong : (t : List ℕ) → Follows [] t → next t ≢ next (drop end.at s)
       wrong t ends e = omega (arith, ahead_in r.reads)
 
-  module _ (all : length end.text.bytes.now ≤ end.at) where
+  module _ (all : length end.text.now.bytes.now ≤ end.at) where
     past : length s ≤ end.at
     past = subst (λ (t : Text). length t.bytes.now ≤ end.at) r.reads.text all
 
@@ -76,7 +76,7 @@ module _ {start : Nested} {end : Cursor} {old new : Store} (many : start.at.text
         ∙ ap (noted []) (mentioned_layout old.used r.is)
 
     miscounted : {e : FormulaFault} → e ≡ record { flaw = Cells; offset = a.at } → (length (cells_of r.is) ≡ 0) ⊎ (4 < length (cells_of r.is)) → FirstIn a e
-    miscounted is w = told (is ∙ ap (λ k. record { flaw = Cells; offset = k }) first) (first_cells (record { first = refl; formula = r.is; said = said; wrong = w }) (subst (Clear a.text.cells s) end_is clear))
+    miscounted is w = told (is ∙ ap (λ k. record { flaw = Cells; offset = k }) first) (first_cells (record { first = refl; formula = r.is; said = said; wrong = w }) (subst (Clear a.text.now.cells s) end_is clear))
 
     module _ (room : Room old a) where
       pub many_cells : {e : FormulaFault} → e ≡ record { flaw = Cells; offset = a.at } → 4 < length (named_from new old.used) → FirstIn a e
@@ -89,7 +89,7 @@ module _ {start : Nested} {end : Cursor} {old new : Store} (many : start.at.text
         pub no_cell : {e : FormulaFault} → e ≡ record { flaw = Cells; offset = a.at } → named.count ≡ 0 → FirstIn a e
         no_cell is z = miscounted is (inl (sym held.count_is ∙ z))
 
-        pub formula_read : (root : ℕ) → root ≡ new.used - 1 → named.count ≢ 0 → ReadFormula a.text.cells s old.nodes.now old.used new.nodes.now new.used (record { root = root; width = named.count; cells = named.cells })
+        pub formula_read : (root : ℕ) → root ≡ new.used - 1 → named.count ≢ 0 → ReadFormula a.text.now.cells s old.nodes.now old.used new.nodes.now new.used (record { root = root; width = named.count; cells = named.cells })
         formula_read root is some = record {
           is = r.is;
           accepted = record { said = said; known = r.known; shallow = omega (arith, r.shallow, start.ready.some); some = omega (arith, held.count_is); few = held.few };

@@ -8,36 +8,36 @@ use Rattle.reader.specs.declared.cursor.Cursor.{Cursor}
 
 -- the next byte, and 256 where the text ends
 abbrev pub ahead : Cursor → ℕ
-ahead a = next (drop a.at a.text.bytes.now)
+ahead a = next (drop a.at a.text.now.bytes.now)
 
 -- the bytes before a place
 abbrev pub behind : Cursor → List ℕ
-behind a = take a.at a.text.bytes.now
+behind a = take a.at a.text.now.bytes.now
 
 -- w stands in a text from one place up to another
 pub record Reads (a : Cursor) (w : List ℕ) (b : Cursor) : Type 0 where
-  pub text : b.text ≡ a.text
-  pub spans : Spans a.text.bytes.now a.at w b.at
+  pub text : b.text.now ≡ a.text.now
+  pub spans : Spans a.text.now.bytes.now a.at w b.at
 
 -- no fault 7 up to a place, and no fault 8 before it
 abbrev pub ClearTo : Cursor → Type 0
-ClearTo a = Clear a.text.cells a.text.bytes.now a.at
+ClearTo a = Clear a.text.now.cells a.text.now.bytes.now a.at
 
 -- a condition can begin at a place on a level from 1 to 16: no fault comes before it
 pub record Ready (a : Cursor) (level : ℕ) : Type 0 where
   pub clear : ClearTo a
-  pub deep : Deep a.text.bytes.now a.at level
+  pub deep : Deep a.text.now.bytes.now a.at level
   pub some : 1 ≤ level
   pub shallow : level ≤ 16
 
 -- a fault is the first of the place's text
 abbrev pub FirstIn : Cursor → FormulaFault → Type 0
-FirstIn a e = First a.text.cells a.text.bytes.now e.flaw e.offset
+FirstIn a e = First a.text.now.cells a.text.now.bytes.now e.flaw e.offset
 
 -- a cell's name ends at a place, and a side was awaited where it began
 pub record AwaitsShift (a : Cursor) : Type 0 where
   pub from : ℕ
   pub cell : ℕ
-  pub awaits : AwaitsSide a.text.bytes.now from
-  pub named : Spans a.text.bytes.now from (67 ∷ numeral cell) a.at
+  pub awaits : AwaitsSide a.text.now.bytes.now from
+  pub named : Spans a.text.now.bytes.now from (67 ∷ numeral cell) a.at
   pub ended : Digit (ahead a) → ⊥

@@ -43,7 +43,7 @@ FirstOf cells s e = First cells s e.flaw e.offset
 pub record ReadOne (a : Nested) (old new : Store) (b : Cursor) : Type 0 where
   pub is : Condition
   pub reads : Reads a.at (text is) b
-  pub known : Known a.at.text.cells is
+  pub known : Known a.at.text.now.cells is
   pub shallow : levels is + a.level ≤ 17
   pub ends : Ends is (ahead b)
   pub nodes : new.nodes.now ≡ stored old.nodes.now old.used (layout old.used is)
@@ -58,7 +58,7 @@ joiner Any = Or
 pub record ReadList (a : Nested) (join : Join) (old new : Store) (b : Cursor) : Type 0 where
   pub are : Conditions
   pub reads : Reads a.at (list_text are ++ (41 ∷ [])) b
-  pub known : KnownAll a.at.text.cells are
+  pub known : KnownAll a.at.text.now.cells are
   pub shallow : list_levels are + a.level ≤ 17
   pub nodes : new.nodes.now ≡ stored old.nodes.now old.used (list_layout (joiner join) old.used are)
   pub count : new.used ≡ old.used + list_size are

@@ -15,4 +15,4 @@ pub record Kept (a b : Store) : Type 0 where
 
 -- a node for each byte of the text that is to be read
 pub record Room (a : Store) (at : Cursor) : Type 0 where
-  pub room : a.used + length at.text.bytes.now ≤ length a.nodes.now + at.at
+  pub room : a.used + length at.text.now.bytes.now ≤ length a.nodes.now + at.at

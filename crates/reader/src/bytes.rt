@@ -24,7 +24,7 @@ impl<'a> Cursor<'a> {
 
     /// The byte that stands here; nothing where the text ends.
     pub fn byte(self) -> Option<u8>
-        ensures { MatchOption result (length self.entry.text.bytes.now ≤ self.entry.at) (λ b. (ahead self.entry ≡ b) × (b < 256)) }
+        ensures { MatchOption result (length self.entry.text.now.bytes.now ≤ self.entry.at) (λ b. (ahead self.entry ≡ b) × (b < 256)) }
     {
         self.text.bytes.get(self.at).copied()
     }
@@ -58,7 +58,7 @@ impl<'a> Cursor<'a> {
 
     /// The place after a word, which has to stand here; otherwise the first byte that differs from it is the fault.
     pub fn word(self, word: &[u8]) -> Result<Cursor<'a>, FormulaFault>
-        ensures { MatchResult result (λ end. Reads self.entry word.now end) (λ e. Misspelled self.entry.text.bytes.now self.entry.at word.now e) }
+        ensures { MatchResult result (λ end. Reads self.entry word.now end) (λ e. Misspelled self.entry.text.now.bytes.now self.entry.at word.now e) }
     {
         let mut end = self;
         for b in word {

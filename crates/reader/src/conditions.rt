@@ -30,7 +30,7 @@ impl<'a> Nested<'a> {
         requires { Opener opening.now }
         ensures { MatchResult result
             (λ inner. Reads self.entry.at opening.now inner.at × (inner.level ≡ self.entry.level + 1))
-            (λ e. NotOpened self.entry.at.text.bytes.now self.entry.at.at opening.now self.entry.level e) }
+            (λ e. NotOpened self.entry.at.text.now.bytes.now self.entry.at.at opening.now self.entry.level e) }
     {
         let inner = self.at.word(opening)?;
         if self.level == 16 {
@@ -66,6 +66,8 @@ impl<'a> Store<'a> {
     }
 
     /// Side, relation, side.
+    // Never inlined: a bracket would hold its frame too for each level.
+    #[inline(never)]
     fn comparison<'t>(&mut self, place: Nested<'t>) -> Result<Cursor<'t>, FormulaFault>
         requires awaits { (o : List Bool) × Awaits o (behind place.at) }
         requires plain { (ahead place.at ≢ 78) × (ahead place.at ≢ 65) × (ahead place.at ≢ 79) }

@@ -75,10 +75,8 @@ fn read_into(
         (λ e. FirstOf cells bytes.now e × (used.new ≡ used.old)
         × (nodes.new ≡ take used.old nodes.old ++ replicate (length nodes.old - used.old) Free)) }
 {
-    let start = Cursor {
-        text: Text { bytes, cells },
-        at: 0,
-    };
+    let text = Text { bytes, cells };
+    let start = Cursor { text: &text, at: 0 };
     let mut store = Store { nodes, used: *used };
     match store.whole(start) {
         Ok(formula) => {
@@ -115,7 +113,7 @@ impl<'a> Store<'a> {
         requires first { start.at ≡ 0 }
         requires room { Room self.old start }
         ensures read { MatchResult result
-            (λ f. ReadFormula start.entry.text.cells start.entry.text.bytes.now self.old.nodes.now self.old.used self.new.nodes.now self.new.used f)
+            (λ f. ReadFormula start.entry.text.now.cells start.entry.text.now.bytes.now self.old.nodes.now self.old.used self.new.nodes.now self.new.used f)
             (λ e. FirstIn start.entry e) }
         ensures kept { Kept self.old self.new }
     {

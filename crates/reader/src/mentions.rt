@@ -9,8 +9,10 @@ use formulas::node::{Node, Side};
 /// The most different cells that a formula names.
 const MOST: usize = 4;
 
+// Always inlined: as calls of their own they copy what is found so far for each side of the text.
 impl Named {
     /// With one more cell, if it is new; nothing where that is one too many.
+    #[inline(always)]
     fn with(self, cell: u8) -> Option<Named>
         ensures { (cs : List ℕ) → Holds cs self → Found (noted cs (cell ∷ [])) result }
     {
@@ -30,6 +32,7 @@ impl Named {
     }
 
     /// With the cell of a side.
+    #[inline(always)]
     fn with_side(self, side: Side) -> Option<Named>
         ensures { (cs : List ℕ) → Holds cs self → Found (noted cs (side_cells side)) result }
     {

@@ -16,8 +16,8 @@ use formulas::node::{Relation, Shift, Side};
 impl<'a> Cursor<'a> {
     /// A number without a minus.
     fn number(self) -> Result<(u32, Cursor<'a>), FormulaFault>
-        requires awaits { AwaitsDigits 0 self.text.bytes.now self.at }
-        requires fresh { NoDigitBefore self.text.bytes.now self.at }
+        requires awaits { AwaitsDigits 0 self.text.now.bytes.now self.at }
+        requires fresh { NoDigitBefore self.text.now.bytes.now self.at }
         ensures { MatchResult result
             (λ v. Reads self.entry (numeral v.0) v.1 × (v.0 ≤ 1000000) × (Digit (ahead v.1) → ⊥))
             (λ e. ClearTo self.entry → FirstIn self.entry e) }
@@ -34,7 +34,7 @@ impl<'a> Cursor<'a> {
 
     /// A number with a minus, which stands here and before `digits`.
     fn negative(self, digits: Cursor<'a>) -> Result<(i32, Cursor<'a>), FormulaFault>
-        requires awaits { AwaitsSide self.text.bytes.now self.at }
+        requires awaits { AwaitsSide self.text.now.bytes.now self.at }
         requires minus { Reads self (45 ∷ []) digits }
         ensures { MatchResult result
             (λ v. Reads self.entry (number_text v.0) v.1 × KnownNumber v.0 × (Digit (ahead v.1) → ⊥))
@@ -71,11 +71,11 @@ impl<'a> Cursor<'a> {
 
     /// A cell, whose C stands here and before `name`, and its shift.
     fn cell(self, name: Cursor<'a>) -> Result<(Side, Cursor<'a>), FormulaFault>
-        requires awaits { AwaitsSide self.text.bytes.now self.at }
+        requires awaits { AwaitsSide self.text.now.bytes.now self.at }
         requires letter { Reads self (67 ∷ []) name }
         requires clear { ClearTo self }
         ensures { MatchResult result
-            (λ v. Reads self.entry (side_text v.0) v.1 × KnownSide self.entry.text.cells v.0 × EndsSide v.0 (ahead v.1))
+            (λ v. Reads self.entry (side_text v.0) v.1 × KnownSide self.entry.text.now.cells v.0 × EndsSide v.0 (ahead v.1))
             (λ e. FirstIn self.entry e) }
     {
         let (cell, after) = name.digits()?;
@@ -90,11 +90,13 @@ impl<'a> Cursor<'a> {
     }
 
     /// One side of a comparison.
+    // Always inlined: as a call of its own it hands the side and the place through memory, twice a comparison.
+    #[inline(always)]
     pub(crate) fn side(self) -> Result<(Side, Cursor<'a>), FormulaFault>
-        requires awaits { AwaitsSide self.text.bytes.now self.at }
+        requires awaits { AwaitsSide self.text.now.bytes.now self.at }
         requires clear { ClearTo self }
         ensures { MatchResult result
-            (λ v. Reads self.entry (side_text v.0) v.1 × KnownSide self.entry.text.cells v.0 × EndsSide v.0 (ahead v.1))
+            (λ v. Reads self.entry (side_text v.0) v.1 × KnownSide self.entry.text.now.cells v.0 × EndsSide v.0 (ahead v.1))
             (λ e. FirstIn self.entry e) }
     {
         if let Some(name) = self.past(b'C') {

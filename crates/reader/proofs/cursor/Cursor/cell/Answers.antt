@@ -16,7 +16,7 @@ returns-in_err-cell c =
     out_as c.from_residual.result _ _ c.in_err-cell.field-0.0 c.from_residual.ensures.1
     (first_in r (refuses d.at _ b.0
     (digits_outside (moved (λ t k. AwaitsDigits 0 t.bytes.now k) r (digits_cell c.requires.awaits (reads_ahead r))) d.within b.1)
-    (clear_letter_read r (λ m t e. absurd (no_digits d.text.bytes.now d.at b.1 m t e)) c.requires.clear)))
+    (clear_letter_read r (λ m t e. absurd (no_digits d.text.now.bytes.now d.at b.1 m t e)) c.requires.clear)))
 
 pub returns-then-cell-from : goal.returns-then-cell-from
 returns-then-cell-from c =
@@ -33,7 +33,7 @@ returns-then-is_some c =
     let few : c.in_ok-cell.cell ≤ 1000000 = omega arith in
     let z = zero_of c.in_ok-cell.cell few v.1 d in
     refuses c.in_ok-cell.after.at _ c.fault-then-is_some.ensures
-    (leading_outside (digits_cell c.requires.awaits (reads_ahead r)) (subst (λ n. Spans c.args.self.text.bytes.now (c.args.self.at + 1) (numeral n) c.in_ok-cell.after.at) z (spans_after r v.0)) d')
+    (leading_outside (digits_cell c.requires.awaits (reads_ahead r)) (subst (λ n. Spans c.args.self.text.now.bytes.now (c.args.self.at + 1) (numeral n) c.in_ok-cell.after.at) z (spans_after r v.0)) d')
     (cell_clear c.in_ok-cell.cell (omega arith) (reads_ahead r) (spans_after r v.0) (omega arith) (inr z) c.requires.clear)
 
 pub returns-in_err-shift : goal.returns-in_err-shift

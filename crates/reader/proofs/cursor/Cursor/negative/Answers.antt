@@ -14,7 +14,7 @@ returns-then-sees c =
     let z = c.sees.ensures.0 c.if-sees.true in
     λ clear. first_in r (refuses d.at _ c.fault.ensures
     (zero_outside (moved (λ t k. AwaitsDigits 1 t.bytes.now k) r (digits_negative c.requires.awaits (reads_ahead r))) d.within z)
-    (clear_minus_read r (λ m t e. omega (arith, zero_stands d.text.bytes.now d.at z m t e)) clear))
+    (clear_minus_read r (λ m t e. omega (arith, zero_stands d.text.now.bytes.now d.at z m t e)) clear))
 
 pub returns-in_err-value : goal.returns-in_err-value
 returns-in_err-value c =
@@ -24,7 +24,7 @@ returns-in_err-value c =
     out_as c.from_residual.result _ _ c.in_err-value.field-0.0 c.from_residual.ensures.1
     (λ clear. first_in r (refuses d.at _ b.0
     (digits_outside (moved (λ t k. AwaitsDigits 1 t.bytes.now k) r (digits_negative c.requires.awaits (reads_ahead r))) d.within b.1)
-    (clear_minus_read r (λ m t e. absurd (no_digits d.text.bytes.now d.at b.1 m t e)) clear)))
+    (clear_minus_read r (λ m t e. absurd (no_digits d.text.now.bytes.now d.at b.1 m t e)) clear)))
 
 pub returns-then-value-gt-LIMIT : goal.returns-then-value-gt-LIMIT
 returns-then-value-gt-LIMIT c =

@@ -26,5 +26,5 @@ returns-then-is_some c =
     let d = some_digit c.in_ok-value.end c.digit.result c.is_some.ensures c.if-is_some.true c.digit.ensures in
     let z = zero_of c.in_ok-value.value c.if-value-gt-LIMIT.false v.1 d in
     λ clear. refuses c.in_ok-value.end.at _ c.fault-then-is_some.ensures
-    (leading_outside c.requires.awaits (subst (λ n. Spans c.args.self.text.bytes.now c.args.self.at (numeral n) c.in_ok-value.end.at) z v.0.spans) (subst Digit (ahead_in v.0) d))
+    (leading_outside c.requires.awaits (subst (λ n. Spans c.args.self.text.now.bytes.now c.args.self.at (numeral n) c.in_ok-value.end.at) z v.0.spans) (subst Digit (ahead_in v.0) d))
     (clear_digits v.0.spans c.if-value-gt-LIMIT.false (inr z) clear)

@@ -11,7 +11,7 @@ use Rattle.reader.proofs.store.Store.comparison.Goals as goal
 pub side-requires-clause-awaits : goal.side-requires-clause-awaits
 side-requires-clause-awaits c =
     let a = c.args.place.at in
-    left_side a.text.bytes.now a.at c.requires.awaits.1 c.requires.plain.0 c.requires.plain.1 c.requires.plain.2 a.within
+    left_side a.text.now.bytes.now a.at c.requires.awaits.1 c.requires.plain.0 c.requires.plain.1 c.requires.plain.2 a.within
 
 pub returns-in_err-by-clause-read : goal.returns-in_err-by-clause-read
 returns-in_err-by-clause-read c =
@@ -22,7 +22,7 @@ returns-in_err-by-clause-read c =
     let ends = subst (EndsSide x) (ahead_in p.0) p.2 in
     out_as c.from_residual-in_err-by.result _ _ c.in_err-by.field-0.0 c.from_residual-in_err-by.ensures.1
     (refuses c.in_ok-left.after.at _ b.0
-    (relation_outside a.text.bytes.now a.at c.requires.awaits.1 c.requires.plain.0 c.requires.plain.1 c.requires.plain.2 x p.0.spans ends
+    (relation_outside a.text.now.bytes.now a.at c.requires.awaits.1 c.requires.plain.0 c.requires.plain.1 c.requires.plain.2 x p.0.spans ends
     (subst (λ n. 60 ≤ n → n ≤ 62 → ⊥) (ahead_in p.0) b.1))
     (clear_side (omega arith) x c.args.place.ready.clear p.0.spans p.1 ends))
 
@@ -33,7 +33,7 @@ side-requires-2-clause-awaits c =
     let o = c.in_ok-by.ensures in
     let both = reads_join p.0 o.0 in
     on (λ t. AwaitsSide t.bytes.now c.in_ok-by.then.at) both
-    (right_side a.text.bytes.now a.at c.requires.awaits.1 c.requires.plain.0 c.requires.plain.1 c.requires.plain.2 c.in_ok-left.left c.in_ok-by.by p.0.spans (spans_in p.0 o.0) (subst (EndsRelation c.in_ok-by.by) (ahead_in both) o.1))
+    (right_side a.text.now.bytes.now a.at c.requires.awaits.1 c.requires.plain.0 c.requires.plain.1 c.requires.plain.2 c.in_ok-left.left c.in_ok-by.by p.0.spans (spans_in p.0 o.0) (subst (EndsRelation c.in_ok-by.by) (ahead_in both) o.1))
 
 pub side-requires-2-clause-clear : goal.side-requires-2-clause-clear
 side-requires-2-clause-clear c =
