@@ -6,16 +6,18 @@ ghost use Rattle.listing.specs.Listing.{text_line, formula_lines};
 
 use sheets::tag::Tag;
 use std::alloc::AllocError;
+use text::{Appended, push_digits};
 
 /// The line of a formula.
 #[tactic(auto, using(text::proofs::Pieces::pieces))]
 fn push_formula(out: &mut Vec<u8>, number: u64, formula: &[u8]) -> Result<(), AllocError>
     ensures { OnOk result (out.new.items ≡ out.old.items ++ text_line number formula.now) }
 {
-    let head = format!(in *out.allocator(); "rule {number} formula ")?;
-    out.extend_from_slice(head.as_bytes())?;
+    out.push_text("rule ")?;
+    push_digits(out, number)?;
+    out.push_text(" formula ")?;
     out.extend_from_slice(formula)?;
-    out.extend_from_slice(b"\n")
+    out.push_ascii(b'\n')
 }
 
 /// The line of a field if it is a formula's. It returns the number of the next formula.

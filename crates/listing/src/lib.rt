@@ -27,10 +27,7 @@ pub fn listing(
     ensures { OnOk result ((s : Sheet) → Holds (held stores.now) extent s → file.now ≡ file_of s → out.new.items ≡ out.old.items ++ listing_of s) }
 {
     let rules = rules(stores, extent);
-    // These lines are text; the formulas' are bytes of the file.
-    let mut lines = String::new(*out.allocator());
-    push_cells(&mut lines, lengths(stores, extent), &stores.numbers)?;
-    push_rules(&mut lines, rules, &stores.places)?;
-    out.extend_from_slice(lines.as_bytes())?;
+    push_cells(out, lengths(stores, extent), &stores.numbers)?;
+    push_rules(out, rules, &stores.places)?;
     push_formulas(out, rules.len() as u64, file)
 }

@@ -1,48 +1,51 @@
 //! The lines of the cells and of the rules by rows.
-ghost use Rattle.std.specs.Prelude.{◌≡◌, ◌*◌, ◌∷◌, ◌++◌, map, take, drop, OnOk, codes, string_bytes};
+ghost use Rattle.std.specs.Prelude.{◌≡◌, ◌*◌, ◌∷◌, ◌++◌, map, take, drop, OnOk};
 ghost use Rattle.std.specs.List.{flat_map};
 ghost use Rattle.formulas.specs.Tree.{numeral, number_text};
 ghost use Rattle.listing.specs.Listing.{numbered, cell_line, kind_text, commas, row_text, rows_line, rows_in, field_of, list_in};
 
 use rows::rule::{Kind, RowsRule};
 use std::alloc::AllocError;
-use text::{part, push_separator};
+use text::{Appended, part, push_digits, push_number, push_separator};
 
 /// Some numbers, each after the same text.
-fn push_each(out: &mut String, before: &str, items: &[u8]) -> Result<(), AllocError>
-    ensures { OnOk result (string_bytes out.new ≡ string_bytes out.old ++ flat_map (λ v. before.now ++ numeral v) items.now) }
+fn push_each(out: &mut Vec<u8>, before: &str, items: &[u8]) -> Result<(), AllocError>
+    ensures { OnOk result (out.new.items ≡ out.old.items ++ flat_map (λ v. before.now ++ numeral v) items.now) }
 {
     for item in items {
-        write!(out, "{before}{item}")?;
+        out.push_text(before)?;
+        push_digits(out, u64::from(*item))?;
     }
     Ok(())
 }
 
 /// The numbers of a list.
-// A loop of its own: one for any item that is written would say its text by what `Display` gives, and both callers would have to turn that
-// into the words of specs.
-fn push_numbers(out: &mut String, numbers: &[i32]) -> Result<(), AllocError>
-    ensures { OnOk result (string_bytes out.new ≡ string_bytes out.old ++ flat_map (λ z. 32 ∷ number_text z) numbers.now) }
+// A loop of its own: one for bytes and for numbers with a sign would take the function that writes an item, and say more of it than it saves.
+fn push_numbers(out: &mut Vec<u8>, numbers: &[i32]) -> Result<(), AllocError>
+    ensures { OnOk result (out.new.items ≡ out.old.items ++ flat_map (λ z. 32 ∷ number_text z) numbers.now) }
 {
     for &number in numbers {
-        write!(out, " {number}")?;
+        out.push_ascii(b' ')?;
+        push_number(out, number)?;
     }
     Ok(())
 }
 
 /// The line of a cell.
 #[tactic(auto, using(text::proofs::Pieces::pieces))]
-fn push_cell(out: &mut String, cell: usize, numbers: &[i32]) -> Result<(), AllocError>
-    ensures { OnOk result (string_bytes out.new ≡ string_bytes out.old ++ cell_line cell numbers.now) }
+fn push_cell(out: &mut Vec<u8>, cell: usize, numbers: &[i32]) -> Result<(), AllocError>
+    ensures { OnOk result (out.new.items ≡ out.old.items ++ cell_line cell numbers.now) }
 {
-    write!(out, "C{cell}:")?;
+    out.push_ascii(b'C')?;
+    push_digits(out, cell as u64)?;
+    out.push_ascii(b':')?;
     push_numbers(out, numbers)?;
-    writeln!(out)
+    out.push_ascii(b'\n')
 }
 
 /// The lines of the cells, whose lists have these lengths, and 64 places each among the numbers.
-pub fn push_cells(out: &mut String, lengths: &[u8], numbers: &[i32]) -> Result<(), AllocError>
-    ensures { OnOk result (string_bytes out.new ≡ string_bytes out.old ++ numbered (λ c n. cell_line c (list_in numbers.now c n)) 0 lengths.now) }
+pub fn push_cells(out: &mut Vec<u8>, lengths: &[u8], numbers: &[i32]) -> Result<(), AllocError>
+    ensures { OnOk result (out.new.items ≡ out.old.items ++ numbered (λ c n. cell_line c (list_in numbers.now c n)) 0 lengths.now) }
 {
     for (cell, length) in lengths.iter().enumerate() {
         let list = part(numbers, cell.saturating_mul(64), usize::from(*length));
@@ -63,8 +66,8 @@ fn kind_words(kind: Kind) -> &'static str
 }
 
 /// The rows of a rule, with a comma between them.
-fn push_rows(out: &mut String, rule: &RowsRule, places: &[u8]) -> Result<(), AllocError>
-    ensures { OnOk result (string_bytes out.new ≡ string_bytes out.old ++ commas (map row_text (rows_in places.now rule.now))) }
+fn push_rows(out: &mut Vec<u8>, rule: &RowsRule, places: &[u8]) -> Result<(), AllocError>
+    ensures { OnOk result (out.new.items ≡ out.old.items ++ commas (map row_text (rows_in places.now rule.now))) }
 {
     let width = usize::from(rule.width);
     // By number and no `chunks_exact`, which refuses the width 0 that a rule may have here.
@@ -79,24 +82,26 @@ fn push_rows(out: &mut String, rule: &RowsRule, places: &[u8]) -> Result<(), All
 /// The line of a rule.
 #[tactic(auto, using(text::proofs::Pieces::pieces))]
 fn push_rule(
-    out: &mut String,
+    out: &mut Vec<u8>,
     number: usize,
     rule: &RowsRule,
     places: &[u8],
 ) -> Result<(), AllocError>
-    ensures { OnOk result (string_bytes out.new ≡ string_bytes out.old ++ rows_line number (field_of places.now rule.now)) }
+    ensures { OnOk result (out.new.items ≡ out.old.items ++ rows_line number (field_of places.now rule.now)) }
 {
-    write!(out, "rule {number}{}", kind_words(rule.kind))?;
+    out.push_text("rule ")?;
+    push_digits(out, number as u64)?;
+    out.push_text(kind_words(rule.kind))?;
     let cells = rule.cells;
     push_each(out, " C", part(&cells, 0, usize::from(rule.width)))?;
-    write!(out, ":")?;
+    out.push_ascii(b':')?;
     push_rows(out, rule, places)?;
-    writeln!(out)
+    out.push_ascii(b'\n')
 }
 
 /// The lines of the rules.
-pub fn push_rules(out: &mut String, rules: &[RowsRule], places: &[u8]) -> Result<(), AllocError>
-    ensures { OnOk result (string_bytes out.new ≡ string_bytes out.old ++ numbered (λ r rule. rows_line r (field_of places.now rule)) 0 rules.now) }
+pub fn push_rules(out: &mut Vec<u8>, rules: &[RowsRule], places: &[u8]) -> Result<(), AllocError>
+    ensures { OnOk result (out.new.items ≡ out.old.items ++ numbered (λ r rule. rows_line r (field_of places.now rule)) 0 rules.now) }
 {
     for (number, rule) in rules.iter().enumerate() {
         push_rule(out, number, rule, places)?;

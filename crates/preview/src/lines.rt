@@ -4,7 +4,7 @@ ghost use Rattle.preview.specs.Preview.{line, names, numbers_in};
 
 use judge::number_of;
 use std::alloc::AllocError;
-use text::push_separator;
+use text::{push_digits, push_number, push_separator};
 
 /// A line with the names of some cells.
 // A loop of its own, as that of the numbers is: a function for both would take a closure that writes, and say more of it than it saves.
@@ -13,7 +13,8 @@ pub fn push_names(out: &mut String, cells: &[u8]) -> Result<(), AllocError>
 {
     for (place, cell) in cells.iter().enumerate() {
         push_separator(out, " ", place)?;
-        write!(out, "C{cell}")?;
+        out.push('C')?;
+        push_digits(out, u64::from(*cell))?;
     }
     out.push_str("\n")
 }
@@ -24,7 +25,7 @@ pub fn push_row(out: &mut String, cells: &[u8], row: &[i32]) -> Result<(), Alloc
 {
     for (place, cell) in cells.iter().enumerate() {
         push_separator(out, " ", place)?;
-        write!(out, "{}", number_of(*cell, row))?;
+        push_number(out, number_of(*cell, row))?;
     }
     out.push_str("\n")
 }

@@ -1,10 +1,73 @@
-//! What several texts are made of: the line of a fault, what stands between two items, and parts of slices. Uses `formulas`.
+//! What several texts are made of: numbers, the line of a fault, what stands between two items, and parts of slices. Uses `formulas`.
 #![tactic(auto)]
 
-ghost use Rattle.std.specs.Prelude.{◌≡◌, [], ◌++◌, take, drop, if◌then◌else◌, OnOk, nat_eq, string_bytes};
+ghost use Rattle.std.specs.Prelude.{◌≡◌, ℕ, ◌<◌, List, [], ◌∷◌, ◌++◌, take, drop, if◌then◌else◌, OnOk, nat_eq, string_bytes};
+ghost use Rattle.formulas.specs.Tree.{numeral, number_text};
 ghost use Rattle.text.specs.Text.{fault_text};
 
 use std::alloc::AllocError;
+
+/// What a text is appended to: a `String`, or bytes, of which not all have to be text.
+pub trait Appended {
+    /// The bytes that it has.
+    ghost bytes: { Self → List ℕ };
+
+    /// Appends an ASCII character.
+    fn push_ascii(&mut self, character: u8) -> Result<(), AllocError>
+        requires { character < 128 }
+        ensures { OnOk result (bytes self.new ≡ bytes self.old ++ (character ∷ [])) };
+
+    /// Appends a text.
+    fn push_text(&mut self, text: &str) -> Result<(), AllocError>
+        ensures { OnOk result (bytes self.new ≡ bytes self.old ++ text.now) };
+}
+
+impl Appended for Vec<u8> {
+    ghost bytes = { λ v. v.items };
+
+    fn push_ascii(&mut self, character: u8) -> Result<(), AllocError> {
+        self.extend_from_slice(&[character])
+    }
+
+    fn push_text(&mut self, text: &str) -> Result<(), AllocError> {
+        self.extend_from_slice(text.as_bytes())
+    }
+}
+
+impl Appended for String {
+    ghost bytes = { string_bytes };
+
+    fn push_ascii(&mut self, character: u8) -> Result<(), AllocError> {
+        self.push(character as char)
+    }
+
+    fn push_text(&mut self, text: &str) -> Result<(), AllocError> {
+        self.push_str(text)
+    }
+}
+
+/// Appends a number's digits, without a leading zero.
+// By hand and no `write!`, which takes twice the time and more where a text is made of small numbers.
+#[tactic(auto, using(crate::proofs::Decimals::digit, crate::proofs::Decimals::digits, crate::proofs::Pieces::pieces))]
+pub fn push_digits<T: Appended>(out: &mut T, number: u64) -> Result<(), AllocError>
+    ensures { OnOk result (T.bytes out.new ≡ T.bytes out.old ++ numeral number) }
+{
+    if number < 10 {
+        return out.push_ascii(b'0' + number as u8);
+    }
+    push_digits(out, number / 10)?;
+    out.push_ascii(b'0' + (number % 10) as u8)
+}
+
+/// Appends a number's digits, after a minus if it is below 0.
+pub fn push_number<T: Appended>(out: &mut T, number: i32) -> Result<(), AllocError>
+    ensures { OnOk result (T.bytes out.new ≡ T.bytes out.old ++ number_text number) }
+{
+    if number < 0 {
+        out.push_ascii(b'-')?;
+    }
+    push_digits(out, u64::from(number.unsigned_abs()))
+}
 
 /// The line of a fault: `FAULT`, its number and its offset.
 // No `Display`: faults of files, of formulas and of calls are three types, and the line has the number and the offset alone.
@@ -16,13 +79,17 @@ pub fn push_fault(out: &mut String, number: u8, offset: usize) -> Result<(), All
 }
 
 /// What stands between two items of a line: it is written before each item but the first, whose place is 0.
-pub fn push_separator(out: &mut String, separator: &str, place: usize) -> Result<(), AllocError>
-    ensures { OnOk result (string_bytes out.new ≡ string_bytes out.old ++ (if nat_eq place 0 then [] else separator.now)) }
+pub fn push_separator<T: Appended>(
+    out: &mut T,
+    separator: &str,
+    place: usize,
+) -> Result<(), AllocError>
+    ensures { OnOk result (T.bytes out.new ≡ T.bytes out.old ++ (if nat_eq place 0 then [] else separator.now)) }
 {
     if place == 0 {
         Ok(())
     } else {
-        out.push_str(separator)
+        out.push_text(separator)
     }
 }
 
@@ -44,6 +111,28 @@ mod tests {
         let mut out = String::new(rt.alloc());
         super::push_fault(&mut out, 6, 4)?;
         assert!(rt; out.as_str() == "FAULT 6 4\n");
+        Ok(())
+    }
+
+    #[test]
+    fn digits_of_numbers(rt: HostRuntime) -> Result<(), Fail> {
+        let mut out = String::new(rt.alloc());
+        for number in [0, 7, 10, 909, u64::MAX] {
+            super::push_digits(&mut out, number)?;
+            out.push_str(" ")?;
+        }
+        assert!(rt; out.as_str() == "0 7 10 909 18446744073709551615 ");
+        Ok(())
+    }
+
+    #[test]
+    fn numbers_with_signs(rt: HostRuntime) -> Result<(), Fail> {
+        let mut out = Vec::new(rt.alloc());
+        for number in [0, 5, -5, 120, -2147483648] {
+            super::push_number(&mut out, number)?;
+            out.extend_from_slice(b" ")?;
+        }
+        assert!(rt; out.as_slice() == b"0 5 -5 120 -2147483648 ".as_slice());
         Ok(())
     }
 

@@ -1,4 +1,4 @@
-use Rattle.std.proofs.Common.{◌≡◌, ◌++◌, length, vec_items, ap, ◌∙◌, append_assoc}
+use Rattle.std.proofs.Common.{◌++◌, length, vec_items, ap, ◌∙◌}
 use Rattle.std.proofs.lemmas.Result.{IfOk-weaker}
 use Rattle.text.proofs.Pieces.{after}
 use Rattle.sheets.specs.Stored.{held}
@@ -17,8 +17,8 @@ returns c =
     let cells = numbered (λ k n. cell_line k (list_in all.numbers k n)) 0 lengths in
     let rows = numbered (λ r rule. rows_line r (field_of all.places rule)) 0 rules in
     let formulas = formula_lines (length rules) (all_fields s) in
-    let lines : c.as_bytes.result.now ≡ cells ++ rows = c.as_bytes.ensures.value ∙ c.in_ok-push_rules.ensures ∙ ap (λ x. x ++ rows) (c.in_ok-push_cells.ensures ∙ ap (λ x. x ++ cells) c.new-lines.ensures.bytes) in
-    after (vec_items c.args.out.now) (cells ++ rows) formulas (c.in_ok-extend_from_slice.ensures.items ∙ ap (λ x. vec_items c.args.out.now ++ x) lines)
-    (wrote (all_fields s) (few all c.args.extent s h rules are) (is ∙ file_fields s))
-    ∙ ap (λ x. vec_items c.args.out.now ++ x) (append_assoc cells rows formulas ∙ listing_same all c.args.extent s h rules are lengths (c.lengths.ensures.means s h)))
+    after (vec_items c.args.out.now) cells (rows ++ formulas) c.in_ok-push_cells.ensures
+    (after (vec_items c.push_cells.new.out) rows formulas c.in_ok-push_rules.ensures
+    (wrote (all_fields s) (few all c.args.extent s h rules are) (is ∙ file_fields s)))
+    ∙ ap (λ x. vec_items c.args.out.now ++ x) (listing_same all c.args.extent s h rules are lengths (c.lengths.ensures.means s h)))
     c.push_formulas.ensures
