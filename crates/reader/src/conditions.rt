@@ -44,7 +44,7 @@ impl<'a> Nested<'a> {
 }
 
 // What is awaited stays a clause: a ghost field could say it only truncated, and `side` takes the fact apart. So does `Room`, which joins a store
-// and a place, and `Kept`, which compares what is lent before and after.
+// and a place, and `Kept`, which compares what is lent before and after. A place with its level goes by reference, so that no condition copies it.
 impl<'a> Store<'a> {
     /// Stores one more node.
     fn push(&mut self, node: Node)
@@ -66,13 +66,13 @@ impl<'a> Store<'a> {
     }
 
     /// Side, relation, side.
-    // Never inlined: a bracket would hold its frame too for each level.
+    // Never inlined: what a list or a bracket is inside of would hold its frame too.
     #[inline(never)]
-    fn comparison<'t>(&mut self, place: Nested<'t>) -> Result<Cursor<'t>, FormulaFault>
-        requires awaits { (o : List Bool) × Awaits o (behind place.at) }
-        requires plain { (ahead place.at ≢ 78) × (ahead place.at ≢ 65) × (ahead place.at ≢ 79) }
-        requires room { Room self.old place.at }
-        ensures read { MatchResult result (λ end. ReadOne place.entry self.old self.new end) (λ e. FirstIn place.entry.at e) }
+    fn comparison<'t>(&mut self, place: &Nested<'t>) -> Result<Cursor<'t>, FormulaFault>
+        requires awaits { (o : List Bool) × Awaits o (behind place.now.at) }
+        requires plain { (ahead place.now.at ≢ 78) × (ahead place.now.at ≢ 65) × (ahead place.now.at ≢ 79) }
+        requires room { Room self.old place.now.at }
+        ensures read { MatchResult result (λ end. ReadOne place.now self.old self.new end) (λ e. FirstIn place.now.at e) }
         ensures kept { Kept self.old self.new }
     {
         let (left, after) = place.at.side()?;
@@ -83,38 +83,76 @@ impl<'a> Store<'a> {
     }
 
     /// A condition.
+    // Always inlined, with its cases as functions of their own: so a list has a condition's end at once, and a small frame.
     #[cycle(condition_conditions)]
-    pub(crate) fn condition<'t>(&mut self, place: Nested<'t>) -> Result<Cursor<'t>, FormulaFault>
-        requires awaits { (o : List Bool) × Awaits o (behind place.at) }
-        requires room { Room self.old place.at }
-        ensures read { MatchResult result (λ end. ReadOne place.entry self.old self.new end) (λ e. FirstIn place.entry.at e) }
+    #[inline(always)]
+    pub(crate) fn condition<'t>(&mut self, place: &Nested<'t>) -> Result<Cursor<'t>, FormulaFault>
+        requires awaits { (o : List Bool) × Awaits o (behind place.now.at) }
+        requires room { Room self.old place.now.at }
+        ensures read { MatchResult result (λ end. ReadOne place.now self.old self.new end) (λ e. FirstIn place.now.at e) }
         ensures kept { Kept self.old self.new }
     {
         if place.at.sees(b'N') {
-            let inner = place.opened(b"NOT(")?;
-            let after = self.condition(inner)?;
-            let end = after.expect(b')')?;
-            let child = self.last();
-            self.push(Node::Not(child));
-            return Ok(end);
+            return self.negation(place);
         }
         if place.at.sees(b'A') {
-            let inner = place.opened(b"AND(")?;
-            return self.conditions(inner, Join::All);
+            return self.conjunction(place);
         }
         if place.at.sees(b'O') {
-            let inner = place.opened(b"OR(")?;
-            return self.conditions(inner, Join::Any);
+            return self.disjunction(place);
         }
         self.comparison(place)
     }
 
+    /// A negation, whose first letter stands here.
+    #[cycle(condition_conditions)]
+    fn negation<'t>(&mut self, place: &Nested<'t>) -> Result<Cursor<'t>, FormulaFault>
+        requires awaits { (o : List Bool) × Awaits o (behind place.now.at) }
+        requires letter { ahead place.now.at ≡ 78 }
+        requires room { Room self.old place.now.at }
+        ensures read { MatchResult result (λ end. ReadOne place.now self.old self.new end) (λ e. FirstIn place.now.at e) }
+        ensures kept { Kept self.old self.new }
+    {
+        let inner = place.opened(b"NOT(")?;
+        let after = self.condition(&inner)?;
+        let end = after.expect(b')')?;
+        let child = self.last();
+        self.push(Node::Not(child));
+        Ok(end)
+    }
+
+    /// Conditions that all have to hold, where their first letter stands.
+    #[cycle(condition_conditions)]
+    fn conjunction<'t>(&mut self, place: &Nested<'t>) -> Result<Cursor<'t>, FormulaFault>
+        requires awaits { (o : List Bool) × Awaits o (behind place.now.at) }
+        requires letter { ahead place.now.at ≡ 65 }
+        requires room { Room self.old place.now.at }
+        ensures read { MatchResult result (λ end. ReadOne place.now self.old self.new end) (λ e. FirstIn place.now.at e) }
+        ensures kept { Kept self.old self.new }
+    {
+        let inner = place.opened(b"AND(")?;
+        self.conditions(&inner, Join::All)
+    }
+
+    /// Conditions of which any has to hold, where their first letter stands.
+    #[cycle(condition_conditions)]
+    fn disjunction<'t>(&mut self, place: &Nested<'t>) -> Result<Cursor<'t>, FormulaFault>
+        requires awaits { (o : List Bool) × Awaits o (behind place.now.at) }
+        requires letter { ahead place.now.at ≡ 79 }
+        requires room { Room self.old place.now.at }
+        ensures read { MatchResult result (λ end. ReadOne place.now self.old self.new end) (λ e. FirstIn place.now.at e) }
+        ensures kept { Kept self.old self.new }
+    {
+        let inner = place.opened(b"OR(")?;
+        self.conditions(&inner, Join::Any)
+    }
+
     /// A list of conditions and the bracket that closes it.
     #[cycle(condition_conditions)]
-    fn conditions<'t>(&mut self, place: Nested<'t>, join: Join) -> Result<Cursor<'t>, FormulaFault>
-        requires awaits { (o : List Bool) × AwaitsList o (behind place.at) }
-        requires room { Room self.old place.at }
-        ensures read { MatchResult result (λ end. ReadList place.entry join self.old self.new end) (λ e. FirstIn place.entry.at e) }
+    fn conditions<'t>(&mut self, place: &Nested<'t>, join: Join) -> Result<Cursor<'t>, FormulaFault>
+        requires awaits { (o : List Bool) × AwaitsList o (behind place.now.at) }
+        requires room { Room self.old place.now.at }
+        ensures read { MatchResult result (λ end. ReadList place.now join self.old self.new end) (λ e. FirstIn place.now.at e) }
         ensures kept { Kept self.old self.new }
     {
         let after = self.condition(place)?;
@@ -126,7 +164,7 @@ impl<'a> Store<'a> {
             at: next,
             level: place.level,
         };
-        let end = self.conditions(more, join)?;
+        let end = self.conditions(&more, join)?;
         let rest = self.last();
         self.push(join.node(first, rest));
         Ok(end)

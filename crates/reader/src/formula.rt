@@ -118,10 +118,11 @@ impl<'a> Store<'a> {
         ensures kept { Kept self.old self.new }
     {
         let from = self.used;
-        let end = self.condition(Nested {
+        let place = Nested {
             at: start,
             level: 1,
-        })?;
+        };
+        let end = self.condition(&place)?;
         if end.byte().is_some() {
             return Err(end.fault(Flaw::Grammar));
         }

@@ -13,15 +13,15 @@ use Rattle.reader.proofs.Places.{on, first_in, reads_join}
 use Rattle.reader.proofs.Assembly.{read_not, read_all, read_any, read_last, read_more, room_on, room_read, room_list, room_after, kept_join, ready_comma, not_opened, not_followed, inside_not, inside_all, inside_any, after_comma}
 use Rattle.reader.proofs.store.Store.+condition_conditions.Goals as goal
 
-pub condition-returns-in_err-inner-clause-read : goal.condition-returns-in_err-inner-clause-read
-condition-returns-in_err-inner-clause-read t c =
+pub negation-returns-in_err-inner-clause-read : goal.negation-returns-in_err-inner-clause-read
+negation-returns-in_err-inner-clause-read t c =
     let zero = compares (Number (pos 0)) Equal (Number (pos 0)) in
     out_as c.from_residual.result _ _ c.in_err-inner.field-0.0 c.from_residual.ensures.1
-    (not_opened c.args.place c.in_err-inner.field-0.0 (78 ∷ 79 ∷ 84 ∷ []) (text zero ++ (41 ∷ [])) (negates zero) (omega arith) c.requires.awaits.1 word_not refl refl
-    (kind_not _ (c.sees.ensures.0 c.if-sees.true)) c.in_err-inner.ensures)
+    (not_opened c.args.place.now c.in_err-inner.field-0.0 (78 ∷ 79 ∷ 84 ∷ []) (text zero ++ (41 ∷ [])) (negates zero) (omega arith) c.requires.awaits.1 word_not refl refl
+    (kind_not _ c.requires.letter) c.in_err-inner.ensures)
 
-pub condition-condition-requires : goal.condition-condition-requires
-condition-condition-requires t c =
+pub negation-condition-requires : goal.negation-condition-requires
+negation-condition-requires t c =
     let i = c.in_ok-inner.ensures in (
       omega (arith, ap (λ (t : Text). length t.bytes.now) i.0.text, i.0.spans.upto, i.0.spans.within),
       (
@@ -30,38 +30,38 @@ condition-condition-requires t c =
       ),
     )
 
-pub condition-returns-in_err-end-clause-read : goal.condition-returns-in_err-end-clause-read
-condition-returns-in_err-end-clause-read t c =
+pub negation-returns-in_err-end-clause-read : goal.negation-returns-in_err-end-clause-read
+negation-returns-in_err-end-clause-read t c =
     let i = c.in_ok-inner.ensures in
     let r = c.in_ok-after.ensures.read in
     let b = c.in_err-end.ensures in
     out_as c.from_residual-in_err-end.result _ _ c.in_err-end.field-0.0 c.from_residual-in_err-end.ensures.1
     (first_in i.0 (not_followed (on (λ t. t.cells ≤ 1000000) i.0 (omega arith)) (inside_not c.requires.awaits.1 i.0) r b.1 (λ e. absurd (false≢true e)) b.0))
 
-pub condition-last-child-requires : goal.condition-last-child-requires
-condition-last-child-requires t c = record { some = (room_read (room_on c.requires.room c.in_ok-inner.ensures.0) c.in_ok-after.ensures.read).0 }
+pub negation-last-child-requires : goal.negation-last-child-requires
+negation-last-child-requires t c = record { some = (room_read (room_on c.requires.room c.in_ok-inner.ensures.0) c.in_ok-after.ensures.read).0 }
 
-pub condition-push-requires : goal.condition-push-requires
-condition-push-requires t c =
+pub negation-push-requires : goal.negation-push-requires
+negation-push-requires t c =
     let m = room_read (room_on c.requires.room c.in_ok-inner.ensures.0) c.in_ok-after.ensures.read in
     record { room = omega (arith, m.1, c.in_ok-after.ensures.kept.long) }
 
-pub condition-returns-then-sees-clause-read : goal.condition-returns-then-sees-clause-read
-condition-returns-then-sees-clause-read t c =
+pub negation-returns-clause-read : goal.negation-returns-clause-read
+negation-returns-clause-read t c =
     let i = c.in_ok-inner.ensures in
     let r = c.in_ok-after.ensures.read in
     read_not i.0 i.1 r c.in_ok-end.ensures (room_read (room_on c.requires.room i.0) r).1 c.last-child.ensures c.push.ensures.nodes c.push.ensures.used
 
-pub condition-returns-in_err-inner-2-clause-read : goal.condition-returns-in_err-inner-2-clause-read
-condition-returns-in_err-inner-2-clause-read t c =
+pub conjunction-returns-in_err-inner-clause-read : goal.conjunction-returns-in_err-inner-clause-read
+conjunction-returns-in_err-inner-clause-read t c =
     let zero = compares (Number (pos 0)) Equal (Number (pos 0)) in
-    out_as c.from_residual-in_err-inner-2.result _ _ c.in_err-inner-2.field-0.0 c.from_residual-in_err-inner-2.ensures.1
-    (not_opened c.args.place c.in_err-inner-2.field-0.0 (65 ∷ 78 ∷ 68 ∷ []) (text zero ++ (41 ∷ [])) (all (one zero)) (omega arith) c.requires.awaits.1 word_and refl refl
-    (kind_all _ (c.sees-2.ensures.0 c.if-sees-2.true)) c.in_err-inner-2.ensures)
+    out_as c.from_residual.result _ _ c.in_err-inner.field-0.0 c.from_residual.ensures.1
+    (not_opened c.args.place.now c.in_err-inner.field-0.0 (65 ∷ 78 ∷ 68 ∷ []) (text zero ++ (41 ∷ [])) (all (one zero)) (omega arith) c.requires.awaits.1 word_and refl refl
+    (kind_all _ c.requires.letter) c.in_err-inner.ensures)
 
-pub condition-conditions-requires : goal.condition-conditions-requires
-condition-conditions-requires t c =
-    let i = c.in_ok-inner-2.ensures in (
+pub conjunction-conditions-requires : goal.conjunction-conditions-requires
+conjunction-conditions-requires t c =
+    let i = c.in_ok-inner.ensures in (
       omega (arith, ap (λ (t : Text). length t.bytes.now) i.0.text, i.0.spans.upto, i.0.spans.within),
       (
         inside_all c.requires.awaits.1 i.0,
@@ -69,21 +69,21 @@ condition-conditions-requires t c =
       ),
     )
 
-pub condition-returns-then-sees-2-clause-read : goal.condition-returns-then-sees-2-clause-read
-condition-returns-then-sees-2-clause-read t c =
-    let i = c.in_ok-inner-2.ensures in
+pub conjunction-returns-clause-read : goal.conjunction-returns-clause-read
+conjunction-returns-clause-read t c =
+    let i = c.in_ok-inner.ensures in
     MatchResult-weaker c.conditions.result c.conditions.ensures.read (λ end r. read_all i.0 i.1 r) (λ e h. first_in i.0 h)
 
-pub condition-returns-in_err-inner-3-clause-read : goal.condition-returns-in_err-inner-3-clause-read
-condition-returns-in_err-inner-3-clause-read t c =
+pub disjunction-returns-in_err-inner-clause-read : goal.disjunction-returns-in_err-inner-clause-read
+disjunction-returns-in_err-inner-clause-read t c =
     let zero = compares (Number (pos 0)) Equal (Number (pos 0)) in
-    out_as c.from_residual-in_err-inner-3.result _ _ c.in_err-inner-3.field-0.0 c.from_residual-in_err-inner-3.ensures.1
-    (not_opened c.args.place c.in_err-inner-3.field-0.0 (79 ∷ 82 ∷ []) (text zero ++ (41 ∷ [])) (any (one zero)) (omega arith) c.requires.awaits.1 word_or refl refl
-    (kind_any _ (c.sees-3.ensures.0 c.if-sees-3.true)) c.in_err-inner-3.ensures)
+    out_as c.from_residual.result _ _ c.in_err-inner.field-0.0 c.from_residual.ensures.1
+    (not_opened c.args.place.now c.in_err-inner.field-0.0 (79 ∷ 82 ∷ []) (text zero ++ (41 ∷ [])) (any (one zero)) (omega arith) c.requires.awaits.1 word_or refl refl
+    (kind_any _ c.requires.letter) c.in_err-inner.ensures)
 
-pub condition-conditions-requires-then-sees-3 : goal.condition-conditions-requires-then-sees-3
-condition-conditions-requires-then-sees-3 t c =
-    let i = c.in_ok-inner-3.ensures in (
+pub disjunction-conditions-requires : goal.disjunction-conditions-requires
+disjunction-conditions-requires t c =
+    let i = c.in_ok-inner.ensures in (
       omega (arith, ap (λ (t : Text). length t.bytes.now) i.0.text, i.0.spans.upto, i.0.spans.within),
       (
         inside_any c.requires.awaits.1 i.0,
@@ -91,19 +91,19 @@ condition-conditions-requires-then-sees-3 t c =
       ),
     )
 
-pub condition-returns-then-sees-3-clause-read : goal.condition-returns-then-sees-3-clause-read
-condition-returns-then-sees-3-clause-read t c =
-    let i = c.in_ok-inner-3.ensures in
-    MatchResult-weaker c.conditions-then-sees-3.result c.conditions-then-sees-3.ensures.read (λ end r. read_any i.0 i.1 r) (λ e h. first_in i.0 h)
+pub disjunction-returns-clause-read : goal.disjunction-returns-clause-read
+disjunction-returns-clause-read t c =
+    let i = c.in_ok-inner.ensures in
+    MatchResult-weaker c.conditions.result c.conditions.ensures.read (λ end r. read_any i.0 i.1 r) (λ e h. first_in i.0 h)
 
 pub conditions-condition-requires : goal.conditions-condition-requires
-conditions-condition-requires t c = (omega arith, ((_, list_first (behind c.args.place.at) c.requires.awaits.1), c.requires.room))
+conditions-condition-requires t c = (omega arith, ((_, list_first (behind c.args.place.now.at) c.requires.awaits.1), c.requires.room))
 
 pub conditions-returns-in_default-clause-read : goal.conditions-returns-in_default-clause-read
 conditions-returns-in_default-clause-read t c =
     let r = c.in_ok-after.ensures.read in
     MatchResult-weaker c.expect.result c.expect.ensures (λ end q. read_last r q)
-    (λ e b. not_followed (omega arith) (list_first (behind c.args.place.at) c.requires.awaits.1) r b.1 (λ _. c.in_default.ensures) b.0)
+    (λ e b. not_followed (omega arith) (list_first (behind c.args.place.now.at) c.requires.awaits.1) r b.1 (λ _. c.in_default.ensures) b.0)
 
 pub conditions-last-first-requires : goal.conditions-last-first-requires
 conditions-last-first-requires t c = record { some = (room_read c.requires.room c.in_ok-after.ensures.read).0 }

@@ -10,12 +10,12 @@ use Rattle.reader.proofs.store.Store.comparison.Goals as goal
 
 pub side-requires-clause-awaits : goal.side-requires-clause-awaits
 side-requires-clause-awaits c =
-    let a = c.args.place.at in
+    let a = c.args.place.now.at in
     left_side a.text.now.bytes.now a.at c.requires.awaits.1 c.requires.plain.0 c.requires.plain.1 c.requires.plain.2 a.within
 
 pub returns-in_err-by-clause-read : goal.returns-in_err-by-clause-read
 returns-in_err-by-clause-read c =
-    let a = c.args.place.at in
+    let a = c.args.place.now.at in
     let x = c.in_ok-left.left in
     let p = c.in_ok-left.ensures in
     let b = c.in_err-by.ensures in
@@ -24,11 +24,11 @@ returns-in_err-by-clause-read c =
     (refuses c.in_ok-left.after.at _ b.0
     (relation_outside a.text.now.bytes.now a.at c.requires.awaits.1 c.requires.plain.0 c.requires.plain.1 c.requires.plain.2 x p.0.spans ends
     (subst (λ n. 60 ≤ n → n ≤ 62 → ⊥) (ahead_in p.0) b.1))
-    (clear_side (omega arith) x c.args.place.ready.clear p.0.spans p.1 ends))
+    (clear_side (omega arith) x c.args.place.now.ready.clear p.0.spans p.1 ends))
 
 pub side-requires-2-clause-awaits : goal.side-requires-2-clause-awaits
 side-requires-2-clause-awaits c =
-    let a = c.args.place.at in
+    let a = c.args.place.now.at in
     let p = c.in_ok-left.ensures in
     let o = c.in_ok-by.ensures in
     let both = reads_join p.0 o.0 in
@@ -40,7 +40,7 @@ side-requires-2-clause-clear c =
     let x = c.in_ok-left.left in
     let p = c.in_ok-left.ensures in
     let o = c.in_ok-by.ensures in
-    clear_on (reads_join p.0 o.0) (clear_relation (omega arith) c.in_ok-by.by (clear_side (omega arith) x c.args.place.ready.clear p.0.spans p.1 (subst (EndsSide x) (ahead_in p.0) p.2)) (spans_in p.0 o.0))
+    clear_on (reads_join p.0 o.0) (clear_relation (omega arith) c.in_ok-by.by (clear_side (omega arith) x c.args.place.now.ready.clear p.0.spans p.1 (subst (EndsSide x) (ahead_in p.0) p.2)) (spans_in p.0 o.0))
 
 pub returns-clause-read : goal.returns-clause-read
 returns-clause-read c =
