@@ -19,8 +19,11 @@ signed_number_text (negsuc n) h = ap (λ l. 45 ∷ l) (decimal_numeral _ (omega 
 
 -- ---- digit by digit
 -- the only digit
-pub digit : (n : ℕ) → n < 10 → (48 + n) ∷ [] ≡ numeral n
-digit n h = ⊎_elim (λ z. ap (λ i. (48 + i) ∷ []) z ∙ sym numeral_zero ∙ ap numeral (sym z)) (λ p. sym (numeral_one n h (omega arith))) (cases_eq n 0)
+pub digit : (n : ℕ) → n < 10 → (48 + n % 10) ∷ [] ≡ numeral n
+digit n h = ⊎_elim
+    (λ z. let f : 48 + n % 10 ≡ 48 = omega arith in ap (λ x. x ∷ []) f ∙ sym numeral_zero ∙ ap numeral (sym z))
+    (λ p. let f : 48 + n % 10 ≡ 48 + n = omega arith in ap (λ x. x ∷ []) f ∙ sym (numeral_one n h (omega arith)))
+    (cases_eq n 0)
 
 -- the last digit, after those before it
 pub digits : (n : ℕ) → 10 ≤ n → numeral (n / 10) ++ ((48 + n % 10) ∷ []) ≡ numeral n

@@ -52,11 +52,12 @@ impl Appended for String {
 pub fn push_digits<T: Appended>(out: &mut T, number: u64) -> Result<(), AllocError>
     ensures { OnOk result (T.bytes out.new ≡ T.bytes out.old ++ numeral number) }
 {
+    let last = b'0' + (number % 10) as u8;
     if number < 10 {
-        return out.push_ascii(b'0' + number as u8);
+        return out.push_ascii(last);
     }
     push_digits(out, number / 10)?;
-    out.push_ascii(b'0' + (number % 10) as u8)
+    out.push_ascii(last)
 }
 
 /// Appends a number's digits, after a minus if it is below 0.
