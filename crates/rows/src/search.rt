@@ -53,7 +53,6 @@ pub(crate) fn some_unstored(rows: &[u8], masks: Masks<'_>) -> bool
     ensures { Decides result (Unstored (length rows.now / length masks.entry.each.now) rows.now masks.entry.each.now) }
 {
     let allowed = allowed_rows(masks);
-    // A product, since to divide for how many are stored would take longer than the rest.
-    allowed as usize * masks.each.len() > rows.len()
+    allowed as usize > rows.len() / masks.each.len()
         || allowed > 0 && some_row(masks, |row| !is_stored(rows, masks.each.len(), row))
 }

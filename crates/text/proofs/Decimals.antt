@@ -1,11 +1,11 @@
--- What std writes for a number is the text that a formula has for it, and so is what is written digit by digit. Assumes nothing.
-use Rattle.std.proofs.Common.{◌≡◌, ℕ, ◌+◌, ◌*◌, ◌/◌, ◌%◌, ◌^◌, ◌<◌, ◌≤◌, [], ◌∷◌, ◌++◌, ℤ, pos, negsuc, sym, ap, ◌∙◌, ⊎_elim, arith, w32, SFits}
+-- What std writes for a number is the text that a formula has for it. Assumes nothing.
+use Rattle.std.proofs.Common.{◌≡◌, ℕ, ◌^◌, ◌<◌, ◌∷◌, ℤ, pos, negsuc, sym, ap, ◌∙◌, ⊎_elim, arith, w32, SFits}
 use Rattle.std.specs.Fmt.{decimal, signed_decimal}
 use Rattle.std.proofs.lemmas.Fmt.{decimal_digit, decimal-digits_of}
 use Rattle.std.proofs.lemmas.Bool.{cases_eq}
 use Rattle.std.proofs.lemmas.Int.{ints}
 use Rattle.formulas.specs.Tree.{numeral, number_text}
-use Rattle.formulas.proofs.Numerals.{positive, numeral_zero, numeral_one, numeral_push}
+use Rattle.formulas.proofs.Numerals.{positive, numeral_zero}
 
 pub decimal_numeral : (n : ℕ) → n < 2 ^ 64 → decimal n ≡ numeral n
 decimal_numeral n h = ⊎_elim
@@ -16,17 +16,3 @@ decimal_numeral n h = ⊎_elim
 pub signed_number_text : (z : ℤ) → SFits w32 z → signed_decimal z ≡ number_text z
 signed_number_text (pos n) h = decimal_numeral n (omega (arith, ints, h.sfits))
 signed_number_text (negsuc n) h = ap (λ l. 45 ∷ l) (decimal_numeral _ (omega (arith, ints, h.sfits)))
-
--- ---- digit by digit
--- the only digit
-pub digit : (n : ℕ) → n < 10 → (48 + n % 10) ∷ [] ≡ numeral n
-digit n h = ⊎_elim
-    (λ z. let f : 48 + n % 10 ≡ 48 = omega arith in ap (λ x. x ∷ []) f ∙ sym numeral_zero ∙ ap numeral (sym z))
-    (λ p. let f : 48 + n % 10 ≡ 48 + n = omega arith in ap (λ x. x ∷ []) f ∙ sym (numeral_one n h (omega arith)))
-    (cases_eq n 0)
-
--- the last digit, after those before it
-pub digits : (n : ℕ) → 10 ≤ n → numeral (n / 10) ++ ((48 + n % 10) ∷ []) ≡ numeral n
-digits n h =
-    let q : n / 10 * 10 + n % 10 ≡ n = omega arith in
-    sym (numeral_push (n / 10) (n % 10) (omega arith) (omega arith)) ∙ ap numeral q

@@ -1,18 +1,15 @@
-use Rattle.std.proofs.Common.{◌*◌, ◌/◌, ◌<◌, length, arith}
-use Rattle.std.proofs.Math.Nat.{div-lt_iff_lt-mul}
+use Rattle.std.proofs.Common.{◌/◌, length, arith}
 use Rattle.std.proofs.lemmas.Bool.{ltb-true, lt-ltb}
 use Rattle.rows.specs.Support.{row_in}
 use Rattle.rows.proofs.Pigeon.{more_than_stored, some_within}
 use Rattle.rows.proofs.search.some_unstored.Goals as goal
 
-pub returns-then-allowed-masks : goal.returns-then-allowed-masks
-returns-then-allowed-masks c =
+pub returns-then-allowed-rows : goal.returns-then-allowed-rows
+returns-then-allowed-rows c =
     let masks = c.args.masks.each.now in
-    let count = length c.args.rows.now / length masks in
-    let more : count < c.allowed_rows-allowed.result = (div-lt_iff_lt-mul c.requires).1 c.if-allowed-masks.true in
-    let new = more_than_stored (row_in (length masks) c.args.rows.now) count masks c.args.masks.few (omega (arith, c.allowed_rows-allowed.ensures, more)) in (
+    let new = more_than_stored (row_in (length masks) c.args.rows.now) (length c.args.rows.now / length masks) masks c.args.masks.few (omega (arith, c.allowed_rows-allowed.ensures, c.if-allowed-rows.true)) in (
       (λ _. record { row = new.0; tried = new.1; absent = new.2 }),
-      (λ _. lt-ltb (length c.args.rows.now) (c.allowed_rows-allowed.result * length masks) c.if-allowed-masks.true),
+      (λ _. lt-ltb (length c.args.rows.now / length masks) c.allowed_rows-allowed.result c.if-allowed-rows.true),
     )
 
 -- no row is allowed
