@@ -32,7 +32,8 @@ fn is_stored(rows: &[u8], width: usize, row: &[u8]) -> bool
     requires { 0 < width }
     ensures { Decides result ((j : ℕ) × (j < length rows.now / width) × (row_in width rows.now j ≡ row.now)) }
 {
-    rows.chunks_exact(width).any(|stored| stored == row)
+    // Place by place: rows have four places at most, and comparing slices is made for longer ones.
+    rows.chunks_exact(width).any(|stored| stored.iter().eq(row))
 }
 
 /// How many rows have allowed places only.
