@@ -17,7 +17,7 @@ fn push_formula(out: &mut Vec<u8>, number: u64, formula: &[u8]) -> Result<(), Al
     push_digits(out, number)?;
     out.push_text(" formula ")?;
     out.extend_from_slice(formula)?;
-    out.push_ascii(b'\n')
+    out.push_text("\n")
 }
 
 /// The line of a field if it is a formula's. It returns the number of the next formula.

@@ -8,13 +8,28 @@ use rows::rule::{Kind, RowsRule};
 use std::alloc::AllocError;
 use text::{Appended, part, push_digits, push_number, push_separator};
 
+/// A small number's digits.
+// Most have one, which is pushed as a byte: to copy a text of one character takes longer than the rest.
+#[inline(always)]
+fn push_small(out: &mut Vec<u8>, number: u8) -> Result<(), AllocError>
+    ensures { OnOk result (out.new.items ≡ out.old.items ++ numeral number) }
+{
+    if number < 10 {
+        out.extend_from_slice(&[b'0' + number])
+    } else {
+        push_digits(out, u64::from(number))
+    }
+}
+
 /// Some numbers, each after the same text.
+// Inlined, so that the text, a character or two, is known where it is copied.
+#[inline(always)]
 fn push_each(out: &mut Vec<u8>, before: &str, items: &[u8]) -> Result<(), AllocError>
     ensures { OnOk result (out.new.items ≡ out.old.items ++ flat_map (λ v. before.now ++ numeral v) items.now) }
 {
     for item in items {
         out.push_text(before)?;
-        push_digits(out, u64::from(*item))?;
+        push_small(out, *item)?;
     }
     Ok(())
 }
@@ -25,7 +40,7 @@ fn push_numbers(out: &mut Vec<u8>, numbers: &[i32]) -> Result<(), AllocError>
     ensures { OnOk result (out.new.items ≡ out.old.items ++ flat_map (λ z. 32 ∷ number_text z) numbers.now) }
 {
     for &number in numbers {
-        out.push_ascii(b' ')?;
+        out.push_text(" ")?;
         push_number(out, number)?;
     }
     Ok(())
@@ -36,11 +51,11 @@ fn push_numbers(out: &mut Vec<u8>, numbers: &[i32]) -> Result<(), AllocError>
 fn push_cell(out: &mut Vec<u8>, cell: usize, numbers: &[i32]) -> Result<(), AllocError>
     ensures { OnOk result (out.new.items ≡ out.old.items ++ cell_line cell numbers.now) }
 {
-    out.push_ascii(b'C')?;
+    out.push_text("C")?;
     push_digits(out, cell as u64)?;
-    out.push_ascii(b':')?;
+    out.push_text(":")?;
     push_numbers(out, numbers)?;
-    out.push_ascii(b'\n')
+    out.push_text("\n")
 }
 
 /// The lines of the cells, whose lists have these lengths, and 64 places each among the numbers.
@@ -94,9 +109,9 @@ fn push_rule(
     out.push_text(kind_words(rule.kind))?;
     let cells = rule.cells;
     push_each(out, " C", part(&cells, 0, usize::from(rule.width)))?;
-    out.push_ascii(b':')?;
+    out.push_text(":")?;
     push_rows(out, rule, places)?;
-    out.push_ascii(b'\n')
+    out.push_text("\n")
 }
 
 /// The lines of the rules.

@@ -1,7 +1,7 @@
 //! What several texts are made of: numbers, the line of a fault, what stands between two items, and parts of slices. Uses `formulas` and `itoa`.
 #![tactic(auto)]
 
-ghost use Rattle.std.specs.Prelude.{◌≡◌, ℕ, ◌<◌, List, [], ◌∷◌, ◌++◌, take, drop, if◌then◌else◌, OnOk, nat_eq, string_bytes};
+ghost use Rattle.std.specs.Prelude.{◌≡◌, ℕ, List, [], ◌++◌, take, drop, if◌then◌else◌, OnOk, nat_eq, string_bytes};
 ghost use Rattle.formulas.specs.Tree.{numeral, number_text};
 ghost use Rattle.text.specs.Text.{fault_text};
 
@@ -13,11 +13,6 @@ pub trait Appended {
     /// The bytes that it has.
     ghost bytes: { Self → List ℕ };
 
-    /// Appends an ASCII character.
-    fn push_ascii(&mut self, character: u8) -> Result<(), AllocError>
-        requires { character < 128 }
-        ensures { OnOk result (bytes self.new ≡ bytes self.old ++ (character ∷ [])) };
-
     /// Appends a text.
     fn push_text(&mut self, text: &str) -> Result<(), AllocError>
         ensures { OnOk result (bytes self.new ≡ bytes self.old ++ text.now) };
@@ -26,10 +21,6 @@ pub trait Appended {
 impl Appended for Vec<u8> {
     ghost bytes = { λ v. v.items };
 
-    fn push_ascii(&mut self, character: u8) -> Result<(), AllocError> {
-        self.extend_from_slice(&[character])
-    }
-
     fn push_text(&mut self, text: &str) -> Result<(), AllocError> {
         self.extend_from_slice(text.as_bytes())
     }
@@ -37,10 +28,6 @@ impl Appended for Vec<u8> {
 
 impl Appended for String {
     ghost bytes = { string_bytes };
-
-    fn push_ascii(&mut self, character: u8) -> Result<(), AllocError> {
-        self.push(character as char)
-    }
 
     fn push_text(&mut self, text: &str) -> Result<(), AllocError> {
         self.push_str(text)
